@@ -1,0 +1,156 @@
+-- Sums over tables: term by term, and gathered by row.
+use mathlib.Core.Path.{_≡_, refl, sym, ap, subst, _∙_}
+use mathlib.Core.Bool.{Bool, true, false}
+use mathlib.Core.List.{List, [], _∷_}
+use Prim.Native.Nat.{ℕ, zero, suc, _+_, _<_, _≤_}
+use native.Mathlib.Omega.{arith}
+use native.Mathlib.Decide.{decLt}
+use lib.Dec.{T, eqb, eqb→eq, eqb-refl}
+use lib.IntN.{ℤ, pos, negℤ, _+ℤ_, _-ℤ_, _*ℤ_, *ℤ-zero, +ℤ-idl, +ℤ-idr}
+use lib.ListN.{length}
+use lib.Signed.{_≤ℤ_}
+use Rattle.measure.specs.Rows.{Row, numbered, rows, total, only, All, Stands}
+use Rattle.measure.proofs.Laws.{lin, mul-add, mul-one}
+
+-- ---- what holds of each
+-- x stands in the list
+pub data In {X : Type 0} (x : X) : List X → Type 0 where
+  here : {xs : List X} → In x (x ∷ xs)
+  there : {y : X} {xs : List X} → In x xs → In x (y ∷ xs)
+
+pub look : {X : Type 0} (P : X → Type 0) (x : X) (xs : List X) → All P xs → In x xs → P x
+unfolding All
+look P x [] h k = elim k [ ]
+look P x (y ∷ xs) h here = h .0
+look P x (y ∷ xs) h (there k) = look P x xs (h .1) k
+
+pub each : {X : Type 0} (P : X → Type 0) (xs : List X) → ((x : X) → In x xs → P x) → All P xs
+unfolding All
+each P [] f = tt
+each P (x ∷ xs) f = (f x here, each P xs (λ y k. f y (there k)))
+
+-- a numbered row's item stands in the table, at its number
+pub row-stands : {X : Type 0} (n : ℕ) (xs : List X) (r : Row X) → In r (numbered n xs) → (i : ℕ) × (r .row ≡ n + i) × (i < length xs) × Stands xs i (r .item)
+unfolding numbered Stands
+row-stands n [] r k = elim k [ ]
+row-stands n (x ∷ xs) r here = (0, omega arith, omega arith, refl)
+row-stands n (x ∷ xs) r (there k) =
+    let s = row-stands (suc n) xs r k in
+    let e = s .1 in
+    let l = s .2 in
+    (suc (s .0), omega arith, omega arith, s .3)
+
+pub stands-row : {X : Type 0} (n : ℕ) (xs : List X) (i : ℕ) (x : X) → Stands xs i x → In (record { item = x; row = n + i }) (numbered n xs)
+unfolding numbered Stands
+stands-row n [] i x k = absurd k
+stands-row n (y ∷ ys) zero x k =
+    subst (λ (r : Row _). In r (record { item = y; row = n } ∷ numbered (suc n) ys)) (λ j. record { item = sym k j; row = plus-zero n j }) here
+  where
+    plus-zero : (n : ℕ) → n ≡ n + 0
+    plus-zero n = omega arith
+stands-row n (y ∷ ys) (suc i) x k =
+    subst (λ (m : ℕ). In (record { item = x; row = m }) (record { item = y; row = n } ∷ numbered (suc n) ys)) (shifted n i) (there (stands-row (suc n) ys i x k))
+  where
+    shifted : (n i : ℕ) → suc n + i ≡ n + suc i
+    shifted n i = omega arith
+
+-- ---- term by term
+pub total-le : {X : Type 0} (f g : X → ℤ) (xs : List X) → ((x : X) → In x xs → f x ≤ℤ g x) → total f xs ≤ℤ total g xs
+unfolding total
+total-le f g [] h = omega (arith, lin)
+total-le f g (x ∷ xs) h = let j = h x here in let k = total-le f g xs (λ y i. h y (there i)) in omega (arith, lin)
+
+pub total-same : {X : Type 0} (f g : X → ℤ) (xs : List X) → ((x : X) → In x xs → f x ≡ g x) → total f xs ≡ total g xs
+unfolding total
+total-same f g [] h = refl
+total-same f g (x ∷ xs) h = λ i. h x here i +ℤ total-same f g xs (λ y k. h y (there k)) i
+
+pub total-add : {X : Type 0} (f g : X → ℤ) (xs : List X) → total (λ x. f x +ℤ g x) xs ≡ total f xs +ℤ total g xs
+unfolding total
+total-add f g [] = refl
+total-add f g (x ∷ xs) = let k = total-add f g xs in omega (arith, lin)
+
+pub total-sub : {X : Type 0} (f g : X → ℤ) (xs : List X) → total (λ x. f x -ℤ g x) xs ≡ total f xs -ℤ total g xs
+unfolding total
+total-sub f g [] = refl
+total-sub f g (x ∷ xs) = let k = total-sub f g xs in omega (arith, lin)
+
+pub total-neg : {X : Type 0} (f : X → ℤ) (xs : List X) → total (λ x. negℤ (f x)) xs ≡ negℤ (total f xs)
+unfolding total
+total-neg f [] = refl
+total-neg f (x ∷ xs) = let k = total-neg f xs in omega (arith, lin)
+
+pub total-mul : {X : Type 0} (k : ℤ) (f : X → ℤ) (xs : List X) → total (λ x. k *ℤ f x) xs ≡ k *ℤ total f xs
+unfolding total
+total-mul k f [] = sym (*ℤ-zero k)
+total-mul k f (x ∷ xs) = ap (λ y. k *ℤ f x +ℤ y) (total-mul k f xs) ∙ sym (mul-add k (f x) (total f xs))
+
+-- a sum over rows of what does not ask the row's number
+pub total-rows : {X : Type 0} (f : X → ℤ) (n : ℕ) (xs : List X) → total (λ (r : Row X). f (r .item)) (numbered n xs) ≡ total f xs
+unfolding total numbered
+total-rows f n [] = refl
+total-rows f n (x ∷ xs) = ap (λ s. f x +ℤ s) (total-rows f (suc n) xs)
+
+-- ---- gathered by row
+pub only-if : (t : Bool) (x : ℤ) → T t → only t x ≡ x
+only-if true x h = refl
+only-if false x h = absurd h
+
+pub only-not : (t : Bool) (x : ℤ) → (T t → ⊥) → only t x ≡ pos 0
+only-not true x h = absurd (h tt)
+only-not false x h = refl
+
+is-same : (m n : ℕ) → m ≡ n → T (eqb m n)
+is-same m n e = subst (λ k. T (eqb m k)) e (eqb-refl m)
+
+module _ {B : Type 0} (w : ℕ → ℤ) (n : ℕ) (x : ℤ) where
+  abbrev share : Row B → ℤ
+  share b = w (b .row) *ℤ only (eqb n (b .row)) x
+
+  share-same : (b : B) → share (record { item = b; row = n }) ≡ w n *ℤ x
+  share-same b = ap (λ y. w n *ℤ y) (only-if (eqb n n) x (eqb-refl n))
+
+  share-other : (b : B) (k : ℕ) → (n ≡ k → ⊥) → share (record { item = b; row = k }) ≡ pos 0
+  share-other b k ne = ap (λ y. w k *ℤ y) (only-not (eqb n k) x (λ t. ne (eqb→eq n k t))) ∙ *ℤ-zero (w k)
+
+  shares-low : (k : ℕ) (bs : List B) → n < k → total share (numbered k bs) ≡ pos 0
+  unfolding total numbered
+  shares-low k [] h = refl
+  shares-low k (b ∷ bs) h = λ i. share-other b k (λ e. omega arith) i +ℤ shares-low (suc k) bs (omega arith) i
+
+  shares-high : (k : ℕ) (bs : List B) → k + length bs ≤ n → total share (numbered k bs) ≡ pos 0
+  unfolding total numbered
+  shares-high k [] h = refl
+  shares-high k (b ∷ bs) h = λ i. share-other b k (λ e. omega arith) i +ℤ shares-high (suc k) bs (omega arith) i
+
+  -- one row of the table takes x
+  shares : (k : ℕ) (bs : List B) → k ≤ n → n < k + length bs → total share (numbered k bs) ≡ w n *ℤ x
+  unfolding total numbered
+  shares k [] h l = absurd (omega arith)
+  shares k (b ∷ bs) h l =
+      elim (decLt k n) [
+        | yes m ↦ (λ i. share-other b k (λ e. omega arith) i +ℤ shares (suc k) bs (omega arith) (omega arith) i) ∙ +ℤ-idl (w n *ℤ x)
+        | no m ↦ let e : n ≡ k = omega arith in
+            (λ i. (ap (λ y. share (record { item = b; row = y })) (sym e) ∙ share-same b) i +ℤ shares-low (suc k) bs (omega arith) i) ∙ +ℤ-idr (w n *ℤ x)
+      ]
+
+  shares-all : (bs : List B) → (length bs ≤ n → w n ≡ pos 0) → total share (rows bs) ≡ w n *ℤ x
+  shares-all bs beyond =
+      elim (decLt n (length bs)) [
+        | yes m ↦ shares 0 bs (omega arith) (omega arith)
+        | no m ↦ shares-high 0 bs (omega arith) ∙ sym (ap (λ y. y *ℤ x) (beyond (omega arith)) ∙ lib.IntN.zero-*ℤ x)
+      ]
+
+total-nothing : {B : Type 0} (w : ℕ → ℤ) (k : ℕ) (bs : List B) → total (λ (b : Row B). w (b .row) *ℤ pos 0) (numbered k bs) ≡ pos 0
+unfolding total numbered
+total-nothing w k [] = refl
+total-nothing w k (b ∷ bs) = λ i. *ℤ-zero (w k) i +ℤ total-nothing w (suc k) bs i
+
+-- each element's amount x r goes to row n r of the table bs, and is weighed by w there, which is 0 where the table has no such row
+pub gather : {R B : Type 0} (w : ℕ → ℤ) (n : R → ℕ) (x : R → ℤ) (bs : List B) (rs : List R) → ((i : ℕ) → length bs ≤ i → w i ≡ pos 0) → total (λ (b : Row B). w (b .row) *ℤ total (λ r. only (eqb (n r) (b .row)) (x r)) rs) (rows bs) ≡ total (λ r. w (n r) *ℤ x r) rs
+unfolding total
+gather w n x bs [] beyond = total-nothing w 0 bs
+gather w n x bs (r ∷ rs) beyond =
+    total-same _ (λ (b : Row _). share w (n r) (x r) b +ℤ w (b .row) *ℤ total (λ r. only (eqb (n r) (b .row)) (x r)) rs) (rows bs) (λ b k. mul-add (w (b .row)) (only (eqb (n r) (b .row)) (x r)) (total (λ r. only (eqb (n r) (b .row)) (x r)) rs))
+    ∙ total-add (share w (n r) (x r)) (λ (b : Row _). w (b .row) *ℤ total (λ r. only (eqb (n r) (b .row)) (x r)) rs) (rows bs)
+    ∙ (λ i. shares-all w (n r) (x r) bs (beyond (n r)) i +ℤ gather w n x bs rs beyond i)

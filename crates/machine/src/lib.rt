@@ -1,0 +1,2 @@
+// Machines of any kind: the four questions put to each, what the answers mean, and sums over a group.
+pub mod machine;

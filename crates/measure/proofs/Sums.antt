@@ -2,14 +2,16 @@
 use mathlib.Core.Path.{_≡_, refl, sym, ap, subst, _∙_}
 use mathlib.Core.Bool.{Bool, true, false}
 use mathlib.Core.List.{List, [], _∷_}
-use Prim.Native.Nat.{ℕ, zero, suc, _+_, _<_, _≤_}
+use Prim.Native.Nat.{ℕ, zero, suc, _+_, _*_, _<_, _≤_}
 use native.Mathlib.Omega.{arith}
 use native.Mathlib.Decide.{decLt}
+use native.Mathlib.Numerals.{add-one}
 use lib.Dec.{T, eqb, eqb→eq, eqb-refl}
 use lib.IntN.{ℤ, pos, negℤ, _+ℤ_, _-ℤ_, _*ℤ_, *ℤ-zero, +ℤ-idl, +ℤ-idr}
 use lib.ListN.{length}
 use lib.Signed.{_≤ℤ_}
-use Rattle.measure.specs.Rows.{Row, numbered, rows, total, only, All, Stands}
+use Rattle.measure.specs.Range.{Within}
+use Rattle.measure.specs.Rows.{Row, numbered, rows, total, only, All, Stands, sum-to, Small}
 use Rattle.measure.proofs.Laws.{lin, mul-add, mul-one}
 
 -- ---- what holds of each
@@ -154,3 +156,16 @@ gather w n x bs (r ∷ rs) beyond =
     total-same _ (λ (b : Row _). share w (n r) (x r) b +ℤ w (b .row) *ℤ total (λ r. only (eqb (n r) (b .row)) (x r)) rs) (rows bs) (λ b k. mul-add (w (b .row)) (only (eqb (n r) (b .row)) (x r)) (total (λ r. only (eqb (n r) (b .row)) (x r)) rs))
     ∙ total-add (share w (n r) (x r)) (λ (b : Row _). w (b .row) *ℤ total (λ r. only (eqb (n r) (b .row)) (x r)) rs) (rows bs)
     ∙ (λ i. shares-all w (n r) (x r) bs (beyond (n r)) i +ℤ gather w n x bs rs beyond i)
+
+-- ---- sums over the first numbers
+pub sum-within : (f : ℕ → ℤ) (n : ℕ) → Small f n → Within (n * 36000000000000000) (sum-to f n)
+unfolding sum-to
+sum-within f zero h = omega (arith, lin)
+sum-within f (suc n) h =
+    let k = sum-within f n (λ i l. h i (omega arith)) in
+    let m = h n (omega arith) in
+    (omega (arith, lin, k .0, m .0), omega (arith, lin, k .1, m .1))
+
+pub sum-more : (f : ℕ → ℤ) (n : ℕ) → sum-to f (n + 1) ≡ sum-to f n +ℤ f n
+unfolding sum-to
+sum-more f n = ap (sum-to f) (add-one n)

@@ -1,6 +1,6 @@
 -- Ranges of whole numbers, sizes, and quotients rounded down and up.
 use Prim.Native.Nat.{ℕ}
-use mathlib.Core.Bool.{Bool, _&&_}
+use mathlib.Core.Bool.{Bool, _&&_, cond}
 use lib.IntN.{ℤ, pos, negℤ, natAbs}
 use lib.Signed.{_≤ℤ_, leZ}
 use Rattle.std.specs.Numbers.{divEuclid}
@@ -12,6 +12,10 @@ Within n z = (negℤ (pos n) ≤ℤ z) × (z ≤ℤ pos n)
 -- the same, as a test: a ≤ z ≤ b
 abbrev pub between : ℤ → ℤ → ℤ → Bool
 between a b z = leZ a z && leZ z b
+
+-- z where it lies between a and b, else 0
+abbrev pub kept : ℤ → ℤ → ℤ → ℤ
+kept a b z = cond (between a b z) z (pos 0)
 
 -- the size of a number
 abbrev pub ∣_∣ : ℤ → ℤ

@@ -6,6 +6,7 @@ use Prim.Native.Nat.{ℕ, zero, suc, _<_}
 use lib.IntN.{ℤ, pos, _+ℤ_}
 use Rattle.std.specs.declared.option.Option.{Option}
 use Rattle.std.specs.declared.option.Option.the-variants.{Some, None}
+use Rattle.measure.specs.Range.{Within}
 use Rattle.measure.specs.Fraction.{Fraction, whole, _+ᶠ_}
 
 -- a row of a table: its item and its number, counted from 0
@@ -59,3 +60,12 @@ pub record Holds-at {X : Type 0} (P : Row X → Type 0) (xs : List X) (i : ℕ) 
 abbrev pub Lowest : (ℕ → Type 0) → Option ℕ → Type 0
 Lowest P None = (i : ℕ) → P i → ⊥
 Lowest P (Some i) = P i × ((j : ℕ) → j < i → P j → ⊥)
+
+-- the sum of f over the first n numbers
+unfoldable pub sum-to : (ℕ → ℤ) → ℕ → ℤ
+sum-to f zero = pos 0
+sum-to f (suc n) = sum-to f n +ℤ f n
+
+-- each of the first n is so small that 255 of them add up within 64 bits
+abbrev pub Small : (ℕ → ℤ) → ℕ → Type 0
+Small f n = (i : ℕ) → i < n → Within 36000000000000000 (f i)

@@ -4,6 +4,7 @@ ghost use Prim.Native.Nat.{ℕ};
 ghost use lib.IntN.{ℤ, pos};
 ghost use lib.ListN.{getD};
 ghost use denote.Ref.{now};
+ghost use Rattle.measure.specs.Rows.{sum-to, Small};
 
 pub trait Column {
     // the number in each row
@@ -30,4 +31,16 @@ pub impl<'a> Column for Table<'a> as TableColumn {
             0
         }
     }
+}
+
+// The sum of a column's first rows, of which each is small enough that the sum fits.
+pub fn sum<C: Column>(column: &C, count: u8) -> i64
+    requires { ⌜ Small (value (now column)) count ⌝ }
+    ensures { λ r. ⌜ r ≡ sum-to (value (now (column .entry))) count ⌝ }
+{
+    let mut sum = 0;
+    for row in 0..count {
+        sum += column.at(row as usize);
+    }
+    sum
 }

@@ -1,5 +1,6 @@
 // The four measures of the panel, each a type of its own, and columns of whole numbers.
 pub mod column;
+pub mod limit;
 pub mod price;
 pub mod range;
 

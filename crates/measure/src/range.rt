@@ -1,10 +1,17 @@
 // Tests of ranges.
 ghost use mathlib.Core.Path.{_≡_};
-ghost use Rattle.measure.specs.Range.{between};
+ghost use Rattle.measure.specs.Range.{between, kept};
 
 // Whether low ≤ z ≤ high.
 pub fn is_between(low: i64, high: i64, z: i64) -> bool
     ensures { λ r. ⌜ r ≡ between low high z ⌝ }
 {
     (low <= z) & (z <= high)
+}
+
+// z where low ≤ z ≤ high, else 0.
+pub fn keep(low: i64, high: i64, z: i64) -> i64
+    ensures { λ r. ⌜ r ≡ kept low high z ⌝ }
+{
+    if is_between(low, high, z) { z } else { 0 }
 }

@@ -1,0 +1,5 @@
+pub mod Ranges
+pub mod Model
+pub mod Floor
+pub mod Nodal
+pub mod Theorems

@@ -6,9 +6,12 @@ use lib.Dec.{T}
 use native.Mathlib.Omega.{arith}
 use native.Mathlib.Nat.{mul-pos}
 use lib.IntN.{ℤ, pos, negsuc, negℤ, _+ℤ_, _-ℤ_, _*ℤ_, *ℤ-comm}
-use lib.Signed.{_≤ℤ_, _<ℤ_}
+use lib.Signed.{_≤ℤ_, _<ℤ_, leZ}
 use Rattle.std.proofs.shelf.Signed.{by-ltZ}
-use Rattle.measure.specs.Range.{Within, ∣_∣}
+use Rattle.std.proofs.shelf.Tests.{and-parts, and-from, cond-true, cond-both}
+use borrow.Author.Differences.{true-is-le, le-out}
+use mathlib.Core.Bool.{true}
+use Rattle.measure.specs.Range.{Within, between, kept, ∣_∣}
 use Rattle.measure.proofs.Laws.{expand, flat, lin, neg-mul, mul-neg}
 use Rattle.measure.proofs.Ring.{ring, Expr, eval, norm, allZero, sub}
 
@@ -110,3 +113,23 @@ ring-le lo hi l r ρ h t = shifted (eval lo ρ) (eval hi ρ) (eval l ρ) (eval r
 -- a positive whole factor is cancelled
 pub cancel : (a b : ℤ) (k : ℕ) → 1 ≤ k → (a *ℤ pos k) ≤ℤ (b *ℤ pos k) → a ≤ℤ b
 cancel a b k one h = mul-cancel a b (pos k) (omega (arith, lin)) h
+
+-- tests of ranges
+pub test : (a b : ℤ) → a ≤ℤ b → leZ a b ≡ true
+test a b h = sym (true-is-le a b (le-out a b h))
+
+pub within-test : (n : ℕ) (z : ℤ) → Within n z → between (negℤ (pos n)) (pos n) z ≡ true
+within-test n z h = and-from (leZ (negℤ (pos n)) z) (leZ z (pos n)) (test (negℤ (pos n)) z (h .0)) (test z (pos n) (h .1))
+
+pub test-within : (n : ℕ) (z : ℤ) → between (negℤ (pos n)) (pos n) z ≡ true → Within n z
+test-within n z e = let h = and-parts (leZ (negℤ (pos n)) z) (leZ z (pos n)) e in omega (arith, lin)
+
+-- a number that is kept between bounds lies between them, and one that lies between them is kept
+pub kept-within : (n : ℕ) (z : ℤ) → Within n (kept (negℤ (pos n)) (pos n) z)
+kept-within n z =
+    cond-both (between (negℤ (pos n)) (pos n) z) z (pos 0) (Within n)
+    (λ e. let h = and-parts (leZ (negℤ (pos n)) z) (leZ z (pos n)) e in omega (arith, lin))
+    (λ e. omega (arith, lin))
+
+pub kept-same : (n : ℕ) (z : ℤ) → Within n z → kept (negℤ (pos n)) (pos n) z ≡ z
+kept-same n z h = cond-true (between (negℤ (pos n)) (pos n) z) z (pos 0) (within-test n z h)

@@ -8,10 +8,10 @@ use native.Mathlib.Decide.{decLt}
 use native.Mathlib.Numerals.{add-one}
 use lib.Dec.{T, eqb, eqb→eq, eqb-refl}
 use lib.IntN.{ℤ, pos, negℤ, _+ℤ_, _-ℤ_, _*ℤ_, *ℤ-zero, +ℤ-idl, +ℤ-idr}
-use lib.ListN.{length}
+use lib.ListN.{length, getD, take}
 use lib.Signed.{_≤ℤ_}
 use Rattle.measure.specs.Range.{Within}
-use Rattle.measure.specs.Rows.{Row, numbered, rows, total, only, All, Stands, sum-to, Small}
+use Rattle.measure.specs.Rows.{Row, numbered, rows, total, only, All, Stands, Holds-at, sum-to, Small, row-value}
 use Rattle.measure.proofs.Laws.{lin, mul-add, mul-one}
 
 -- ---- what holds of each
@@ -169,3 +169,77 @@ sum-within f (suc n) h =
 pub sum-more : (f : ℕ → ℤ) (n : ℕ) → sum-to f (n + 1) ≡ sum-to f n +ℤ f n
 unfolding sum-to
 sum-more f n = ap (sum-to f) (add-one n)
+
+-- ---- the value of a row
+pub row-value-at : {X : Type 0} (f : Row X → ℤ) (n : ℕ) (xs : List X) (i : ℕ) (d : X) → i < length xs → row-value f n xs i ≡ f (record { item = getD xs i d; row = n + i })
+unfolding row-value
+row-value-at f n [] i d h = absurd (omega arith)
+row-value-at f n (x ∷ xs) zero d h = ap (λ k. f (record { item = x; row = k })) (plus-zero n)
+  where
+    plus-zero : (n : ℕ) → n ≡ n + 0
+    plus-zero n = omega arith
+row-value-at f n (x ∷ xs) (suc i) d h = row-value-at f (suc n) xs i d (omega arith) ∙ ap (λ k. f (record { item = getD xs i d; row = k })) (shifted n i)
+  where
+    shifted : (n i : ℕ) → suc n + i ≡ n + suc i
+    shifted n i = omega arith
+
+pub row-value-past : {X : Type 0} (f : Row X → ℤ) (n : ℕ) (xs : List X) (i : ℕ) → length xs ≤ i → row-value f n xs i ≡ pos 0
+unfolding row-value
+row-value-past f n [] i h = refl
+row-value-past f n (x ∷ xs) zero h = absurd (omega arith)
+row-value-past f n (x ∷ xs) (suc i) h = row-value-past f (suc n) xs i (omega arith)
+
+-- a sum that takes its first number first
+sum-front : (f : ℕ → ℤ) (n : ℕ) → sum-to f (suc n) ≡ f 0 +ℤ sum-to (λ i. f (suc i)) n
+unfolding sum-to
+sum-front f zero = omega (arith, lin)
+sum-front f (suc n) = let k = sum-front f n in omega (arith, lin)
+
+sum-nothing : (n : ℕ) → sum-to (λ i. pos 0) n ≡ pos 0
+unfolding sum-to
+sum-nothing zero = refl
+sum-nothing (suc n) = let k = sum-nothing n in omega (arith, lin)
+
+-- the sum of the values of the first rows
+pub sum-rows : {X : Type 0} (f : Row X → ℤ) (k : ℕ) (xs : List X) (n : ℕ) → sum-to (row-value f k xs) n ≡ total f (numbered k (take n xs))
+unfolding row-value total numbered sum-to
+sum-rows f k xs zero = refl
+sum-rows f k [] (suc n) = sum-nothing (suc n)
+sum-rows f k (x ∷ xs) (suc n) = sum-front (row-value f k (x ∷ xs)) n ∙ ap (λ s. f (record { item = x; row = k }) +ℤ s) (sum-rows f (suc k) xs n)
+
+pub sum-same : (f g : ℕ → ℤ) (n : ℕ) → ((i : ℕ) → i < n → f i ≡ g i) → sum-to f n ≡ sum-to g n
+unfolding sum-to
+sum-same f g zero h = refl
+sum-same f g (suc n) h = λ i. sum-same f g n (λ j l. h j (omega arith)) i +ℤ h n (omega arith) i
+
+-- ---- a row by its number
+pub stands-read : {X : Type 0} (xs : List X) (i : ℕ) (x : X) → i < length xs → x ≡ getD xs i x → Stands xs i x
+unfolding Stands
+stands-read [] i x h e = absurd (omega arith)
+stands-read (y ∷ ys) zero x h e = e
+stands-read (y ∷ ys) (suc i) x h e = stands-read ys i x (omega arith) e
+
+pub stands-below : {X : Type 0} (xs : List X) (i : ℕ) (x : X) → Stands xs i x → i < length xs
+unfolding Stands
+stands-below [] i x s = absurd s
+stands-below (y ∷ ys) zero x s = omega arith
+stands-below (y ∷ ys) (suc i) x s = let k = stands-below ys i x s in omega arith
+
+pub stands-getD : {X : Type 0} (xs : List X) (i : ℕ) (x d : X) → Stands xs i x → x ≡ getD xs i d
+unfolding Stands
+stands-getD [] i x d s = absurd s
+stands-getD (y ∷ ys) zero x d s = s
+stands-getD (y ∷ ys) (suc i) x d s = stands-getD ys i x d s
+
+-- one item stands in a row
+pub stands-one : {X : Type 0} (xs : List X) (i : ℕ) (x y : X) → Stands xs i x → Stands xs i y → x ≡ y
+stands-one xs i x y s t = stands-getD xs i x x s ∙ sym (stands-getD xs i y x t)
+
+-- what does not hold of the item in row i does not hold at i
+pub passed : {X : Type 0} (P : Row X → Type 0) (xs : List X) (i : ℕ) (x : X) → Stands xs i x → (P (record { item = x; row = i }) → ⊥) → Holds-at P xs i → ⊥
+passed P xs i x s not h =
+    not (subst (λ (y : _). P (record { item = y; row = i })) (stands-one xs i (h .item) x (h .stands) s) (h .holds))
+
+-- a row of which something holds is in the table
+pub holds-below : {X : Type 0} (P : Row X → Type 0) (xs : List X) (i : ℕ) → Holds-at P xs i → i < length xs
+holds-below P xs i h = stands-below xs i (h .item) (h .stands)

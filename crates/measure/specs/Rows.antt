@@ -69,3 +69,9 @@ sum-to f (suc n) = sum-to f n +ℤ f n
 -- each of the first n is so small that 255 of them add up within 64 bits
 abbrev pub Small : (ℕ → ℤ) → ℕ → Type 0
 Small f n = (i : ℕ) → i < n → Within 36000000000000000 (f i)
+
+-- f of the row i, where the table's first row has the number n; 0 past its end
+unfoldable pub row-value : {X : Type 0} → (Row X → ℤ) → ℕ → List X → ℕ → ℤ
+row-value f n [] i = pos 0
+row-value f n (x ∷ xs) zero = f (record { item = x; row = n })
+row-value f n (x ∷ xs) (suc i) = row-value f (suc n) xs i

@@ -1,6 +1,7 @@
 // Tests of ranges.
 ghost use mathlib.Core.Path.{_≡_};
 ghost use Rattle.measure.specs.Range.{between, kept};
+ghost use Rattle.measure.specs.Rows.{only};
 
 // Whether low ≤ z ≤ high.
 pub fn is_between(low: i64, high: i64, z: i64) -> bool
@@ -14,4 +15,11 @@ pub fn keep(low: i64, high: i64, z: i64) -> i64
     ensures { λ r. ⌜ r ≡ kept low high z ⌝ }
 {
     if is_between(low, high, z) { z } else { 0 }
+}
+
+// z where the test passes, else 0.
+pub fn only_if(test: bool, z: i64) -> i64
+    ensures { λ r. ⌜ r ≡ only test z ⌝ }
+{
+    if test { z } else { 0 }
 }

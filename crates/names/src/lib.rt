@@ -1,6 +1,5 @@
-#[derive(Clone, Copy, PartialEq, Eq, Debug)]
-pub struct BranchName {
-    pub circuit: u32,
-    pub from: u32,
-    pub to: u32,
-}
+// Names: kinds of name, rows that have one, and the list of the names of a table's rows.
+pub mod branch;
+pub mod list;
+pub mod name;
+pub mod number;

@@ -1,5 +1,0 @@
-pub mod Ranges
-pub mod Model
-pub mod Floor
-pub mod Nodal
-pub mod Theorems

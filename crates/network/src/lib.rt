@@ -1,4 +1,0 @@
-// The network in the DC model: buses, branches and machines of two kinds; judging a dispatch, and the floor of a price list.
-pub mod branch;
-pub mod bus;
-pub mod theorems;

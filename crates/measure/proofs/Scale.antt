@@ -2,18 +2,20 @@
 use mathlib.Core.Path.{_≡_, refl, sym, ap, subst, _∙_}
 use mathlib.Core.Bool.{Bool, true, false}
 use mathlib.Core.List.{List, [], _∷_, _++_, map}
-use Prim.Native.Nat.{ℕ, _+_, _*_, _/_, _≤_}
+use Prim.Native.Nat.{ℕ, suc, _+_, _*_, _/_, _≤_, _<_}
 use Prim.Native.Nat.{_∣_}
 use native.Mathlib.Nat.{div-mul-cancel, dvd-mul-right, dvd-mul-left-of-dvd, one-le-mul, le-refl}
 use native.Mathlib.Omega.{arith}
+use native.Mathlib.Decide.{decLt}
 use lib.Dec.{lit≤}
 use lib.IntN.{ℤ, pos, _+ℤ_, _-ℤ_, _*ℤ_, negℤ, zero-*ℤ, *ℤ-comm}
+use lib.ListN.{length}
 use lib.Signed.{_≤ℤ_}
-use Rattle.measure.specs.Fraction.{Fraction, whole, _+ᶠ_, _-ᶠ_, _·ᶠ_, _≤ᶠ_, Between}
-use Rattle.measure.specs.Rows.{total, totalᶠ, only, onlyᶠ}
+use Rattle.measure.specs.Fraction.{Fraction, whole, _+ᶠ_, _-ᶠ_, _·ᶠ_, _≤ᶠ_, Between, Same}
+use Rattle.measure.specs.Rows.{Row, numbered, total, totalᶠ, only, onlyᶠ}
 use Rattle.measure.proofs.Laws.{lin, mul-assoc, mul-one, neg-mul}
 use Rattle.measure.proofs.Ring.{ring, Expr, var, con, add, sub, mul, neg}
-use Rattle.measure.proofs.Order.{mul-le, cancel}
+use Rattle.measure.proofs.Order.{mul-le, cancel, mul-cancel-eq, along}
 use Rattle.measure.proofs.Sums.{In, here, there}
 
 pub record Over (D : ℕ) (f : Fraction) (X : ℤ) : Type 0 where
@@ -125,3 +127,29 @@ pub in-map : {X Y : Type 0} (f : X → Y) (x : X) (xs : List X) → In x xs → 
 in-map f x [] k = elim k [ ]
 in-map f x (y ∷ xs) here = here
 in-map f x (y ∷ xs) (there k) = there (in-map f x xs k)
+
+-- what is looked up by the number of a row, listed over a table
+pub in-rows : {X Y : Type 0} (f : ℕ → Y) (n : ℕ) (xs : List X) (i : ℕ) → n ≤ i → i < n + length xs → In (f i) (map (λ (r : Row X). f (r .row)) (numbered n xs))
+unfolding numbered
+in-rows f n [] i h l = absurd (omega arith)
+in-rows f n (x ∷ xs) i h l =
+    elim (decLt n i) [
+      | yes m ↦ there (in-rows f (suc n) xs i (omega arith) (omega arith))
+      | no m ↦ let e : n ≡ i = omega arith in
+          subst (λ (j : ℕ). In (f j) (f n ∷ map (λ (r : Row _). f (r .row)) (numbered (suc n) xs))) e here
+    ]
+
+-- two fractions that are the same number over D
+pub over-same : (D : ℕ) → 1 ≤ D → (f g : Fraction) (X : ℤ) → Over D f X → Over D g X → Same f g
+over-same D one f g X h k = record {
+  cross = mul-cancel-eq (f .num *ℤ pos (g .den)) (g .num *ℤ pos (f .den)) (pos D) (omega (arith, lin))
+      (*ℤ-comm (f .num *ℤ pos (g .den)) (pos D) ∙ crossed D f g X h ∙ sym (crossed′ D f g X k) ∙ *ℤ-comm (pos D) (g .num *ℤ pos (f .den)));
+}
+
+-- a whole number over 1
+pub over-one : (k : ℤ) → Over 1 (whole k) k
+over-one k = record { cross = refl }
+
+-- within ±a, over D
+pub within-over : (D : ℕ) (a : ℤ) (f : Fraction) (X : ℤ) → Over D f X → Between (negℤ a) a f → (negℤ (a *ℤ pos D) ≤ℤ X) × (X ≤ℤ (a *ℤ pos D))
+within-over D a f X h w = let b = between-over D (negℤ a) a f X h w in (along (neg-mul a (pos D)) refl (b .0), b .1)

@@ -157,6 +157,17 @@ gather w n x bs (r ∷ rs) beyond =
     ∙ total-add (share w (n r) (x r)) (λ (b : Row _). w (b .row) *ℤ total (λ r. only (eqb (n r) (b .row)) (x r)) rs) (rows bs)
     ∙ (λ i. shares-all w (n r) (x r) bs (beyond (n r)) i +ℤ gather w n x bs rs beyond i)
 
+-- one amount x that goes to row n
+pub gather-one : {B : Type 0} (w : ℕ → ℤ) (n : ℕ) (x : ℤ) (bs : List B) → ((i : ℕ) → length bs ≤ i → w i ≡ pos 0) → total (λ (b : Row B). w (b .row) *ℤ only (eqb n (b .row)) x) (rows bs) ≡ w n *ℤ x
+gather-one w n x bs beyond = shares-all w n x bs (beyond n)
+
+-- a row's item is one of the table's
+pub row-item : {X : Type 0} (n : ℕ) (xs : List X) (r : Row X) → In r (numbered n xs) → In (r .item) xs
+unfolding numbered
+row-item n [] r k = elim k [ ]
+row-item n (x ∷ xs) r here = here
+row-item n (x ∷ xs) r (there k) = there (row-item (suc n) xs r k)
+
 -- ---- sums over the first numbers
 pub sum-within : (f : ℕ → ℤ) (n : ℕ) → Small f n → Within (n * 36000000000000000) (sum-to f n)
 unfolding sum-to
@@ -243,3 +254,22 @@ passed P xs i x s not h =
 -- a row of which something holds is in the table
 pub holds-below : {X : Type 0} (P : Row X → Type 0) (xs : List X) (i : ℕ) → Holds-at P xs i → i < length xs
 holds-below P xs i h = stands-below xs i (h .item) (h .stands)
+
+-- the value of a row, by what its item is
+value-from : {X : Type 0} (f : Row X → ℤ) (n : ℕ) (xs : List X) (i : ℕ) (z : ℤ) → i < length xs → ((x : X) → Stands xs i x → z ≡ f (record { item = x; row = n + i })) → z ≡ row-value f n xs i
+unfolding row-value Stands
+value-from f n [] i z h e = absurd (omega arith)
+value-from f n (x ∷ xs) zero z h e = e x refl ∙ ap (λ k. f (record { item = x; row = k })) (plus-zero n)
+  where
+    plus-zero : (n : ℕ) → n + 0 ≡ n
+    plus-zero n = omega arith
+value-from f n (x ∷ xs) (suc i) z h e = value-from f (suc n) xs i z (omega arith) (λ y s. e y s ∙ ap (λ k. f (record { item = y; row = k })) (shifted n i))
+  where
+    shifted : (n i : ℕ) → n + suc i ≡ suc n + i
+    shifted n i = omega arith
+
+pub row-value-is : {X : Type 0} (f : Row X → ℤ) (xs : List X) (i : ℕ) (z : ℤ) → i < length xs → ((x : X) → Stands xs i x → z ≡ f (record { item = x; row = i })) → z ≡ row-value f 0 xs i
+row-value-is f xs i z h e = value-from f 0 xs i z h (λ x s. e x s ∙ ap (λ k. f (record { item = x; row = k })) (zero-plus i))
+  where
+    zero-plus : (i : ℕ) → i ≡ 0 + i
+    zero-plus i = omega arith

@@ -1,0 +1,10 @@
+pub mod Scaled
+pub mod Denominator
+pub mod Branches
+pub mod Machines
+pub mod Buses
+pub mod Flows
+pub mod Duality
+pub mod Counted
+pub mod Nodal
+pub mod Whole

@@ -1,0 +1,22 @@
+-- The ranges and orders that every bus and every branch keeps.
+use Prim.Native.Nat.{ℕ, _≤_}
+use lib.IntN.{ℤ, pos}
+use lib.Signed.{_≤ℤ_}
+use Rattle.measure.specs.Range.{Within}
+
+-- a bus name
+abbrev pub Name-range : ℕ → Type 0
+Name-range n = (1 ≤ n) × (n ≤ 255)
+
+abbrev pub Bus-ranges : ℕ → ℤ → Type 0
+Bus-ranges name demand = Name-range name × Within 100000000 demand
+
+-- the limits of an angle difference, in order
+abbrev pub Limits : ℤ → ℤ → Type 0
+Limits low high = Within 6400000 low × Within 6400000 high × (low ≤ℤ high)
+
+-- a susceptance, an angle difference and a shift
+pub record Carried (b δ s : ℤ) : Type 0 where
+  pub susceptance : Within 1000000 b
+  pub difference : Within 6400000 δ
+  pub shift : Within 1600000 s

@@ -1,0 +1,45 @@
+// A case, as a view of lent tables.
+ghost use mathlib.Core.Path.{_≡_};
+ghost use lib.ListN.{getD, length, take};
+use crate::branch::Branch;
+use crate::bus::Bus;
+
+// Machines of one kind: a table, of which the first rows are the case's, and the row of each one's bus.
+#[derive(Clone, Copy)]
+pub struct Machines<'a, M> {
+    pub rows: &'a [M],
+    pub places: &'a [u8],
+    pub count: u8,
+}
+
+impl<'a, M> Machines<'a, M> {
+    // The row of the bus of the machine in that row.
+    pub(crate) fn place(&self, row: usize) -> u8
+        ensures { λ r. ⌜ r ≡ getD (now (now (self .entry) .places)) row 0 ⌝ }
+    {
+        if row < self.places.len() {
+            self.places[row]
+        } else {
+            0
+        }
+    }
+}
+
+// A case: the tolerance of the balance in watts, buses, machines of two kinds and branches. The first rows of each table are the case's.
+#[derive(Clone, Copy)]
+pub struct Case<'a, M, N> {
+    pub tolerance: u32,
+    pub buses: &'a [Bus],
+    pub nb: u8,
+    pub first: Machines<'a, M>,
+    pub second: Machines<'a, N>,
+    pub branches: &'a [Branch],
+    pub nl: u8,
+}
+
+// How many of a table's rows are among its first so many.
+pub(crate) fn rows_used<T>(table: &[T], count: u8) -> usize
+    ensures { λ r. ⌜ r ≡ length (take count (now (table .entry))) ⌝ }
+{
+    table.len().min(count as usize)
+}

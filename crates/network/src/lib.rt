@@ -1,0 +1,7 @@
+// The network in the DC model: buses, branches and machines of two kinds; judging a dispatch, and the floor of a price list.
+mod angles;
+pub mod balance;
+pub mod branch;
+pub mod bus;
+pub mod case;
+pub mod theorems;

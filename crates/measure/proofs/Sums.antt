@@ -6,12 +6,13 @@ use Prim.Native.Nat.{ℕ, zero, suc, _+_, _*_, _<_, _≤_}
 use native.Mathlib.Omega.{arith}
 use native.Mathlib.Decide.{decLt}
 use native.Mathlib.Numerals.{add-one}
+use native.Mathlib.Nat.{zero-mul, suc-mul}
 use lib.Dec.{T, eqb, eqb→eq, eqb-refl}
 use lib.IntN.{ℤ, pos, negℤ, _+ℤ_, _-ℤ_, _*ℤ_, *ℤ-zero, +ℤ-idl, +ℤ-idr}
 use lib.ListN.{length, getD, take}
 use lib.Signed.{_≤ℤ_}
 use Rattle.measure.specs.Range.{Within}
-use Rattle.measure.specs.Rows.{Row, numbered, rows, total, only, All, Stands, Holds-at, sum-to, Small, row-value}
+use Rattle.measure.specs.Rows.{Row, numbered, rows, total, only, All, Stands, Holds-at, sum-to, Small, row-or, row-value}
 use Rattle.measure.proofs.Laws.{lin, mul-add, mul-one}
 
 -- ---- what holds of each
@@ -169,36 +170,50 @@ row-item n (x ∷ xs) r here = here
 row-item n (x ∷ xs) r (there k) = there (row-item (suc n) xs r k)
 
 -- ---- sums over the first numbers
-pub sum-within : (f : ℕ → ℤ) (n : ℕ) → Small f n → Within (n * 36000000000000000) (sum-to f n)
+pub sum-within : (m : ℕ) (f : ℕ → ℤ) (n : ℕ) → ((i : ℕ) → i < n → Within m (f i)) → Within (n * m) (sum-to f n)
 unfolding sum-to
-sum-within f zero h = omega (arith, lin)
-sum-within f (suc n) h =
-    let k = sum-within f n (λ i l. h i (omega arith)) in
-    let m = h n (omega arith) in
-    (omega (arith, lin, k .0, m .0), omega (arith, lin, k .1, m .1))
+sum-within m f zero h = rw zero-mul (omega (arith, lin))
+sum-within m f (suc n) h =
+    let k = sum-within m f n (λ i l. h i (omega arith)) in
+    let l = h n (omega arith) in
+    rw suc-mul (omega (arith, lin, k .0, l .0), omega (arith, lin, k .1, l .1))
 
 pub sum-more : (f : ℕ → ℤ) (n : ℕ) → sum-to f (n + 1) ≡ sum-to f n +ℤ f n
 unfolding sum-to
 sum-more f n = ap (sum-to f) (add-one n)
 
 -- ---- the value of a row
-pub row-value-at : {X : Type 0} (f : Row X → ℤ) (n : ℕ) (xs : List X) (i : ℕ) (d : X) → i < length xs → row-value f n xs i ≡ f (record { item = getD xs i d; row = n + i })
-unfolding row-value
-row-value-at f n [] i d h = absurd (omega arith)
-row-value-at f n (x ∷ xs) zero d h = ap (λ k. f (record { item = x; row = k })) (plus-zero n)
+pub row-past : {X Y : Type 0} (y : Y) (f : Row X → Y) (n : ℕ) (xs : List X) (i : ℕ) → length xs ≤ i → row-or y f n xs i ≡ y
+unfolding row-or
+row-past y f n [] i h = refl
+row-past y f n (x ∷ xs) zero h = absurd (omega arith)
+row-past y f n (x ∷ xs) (suc i) h = row-past y f (suc n) xs i (omega arith)
+
+row-from : {X Y : Type 0} (y : Y) (f : Row X → Y) (n : ℕ) (xs : List X) (i : ℕ) (z : Y) → i < length xs → ((x : X) → Stands xs i x → z ≡ f (record { item = x; row = n + i })) → z ≡ row-or y f n xs i
+unfolding row-or Stands
+row-from y f n [] i z h e = absurd (omega arith)
+row-from y f n (x ∷ xs) zero z h e = e x refl ∙ ap (λ k. f (record { item = x; row = k })) (plus-zero n)
   where
-    plus-zero : (n : ℕ) → n ≡ n + 0
+    plus-zero : (n : ℕ) → n + 0 ≡ n
     plus-zero n = omega arith
-row-value-at f n (x ∷ xs) (suc i) d h = row-value-at f (suc n) xs i d (omega arith) ∙ ap (λ k. f (record { item = getD xs i d; row = k })) (shifted n i)
+row-from y f n (x ∷ xs) (suc i) z h e = row-from y f (suc n) xs i z (omega arith) (λ v s. e v s ∙ ap (λ k. f (record { item = v; row = k })) (shifted n i))
   where
-    shifted : (n i : ℕ) → suc n + i ≡ n + suc i
+    shifted : (n i : ℕ) → n + suc i ≡ suc n + i
     shifted n i = omega arith
 
-pub row-value-past : {X : Type 0} (f : Row X → ℤ) (n : ℕ) (xs : List X) (i : ℕ) → length xs ≤ i → row-value f n xs i ≡ pos 0
-unfolding row-value
-row-value-past f n [] i h = refl
-row-value-past f n (x ∷ xs) zero h = absurd (omega arith)
-row-value-past f n (x ∷ xs) (suc i) h = row-value-past f (suc n) xs i (omega arith)
+-- what the item in row i gives is the value of the row
+pub row-is : {X Y : Type 0} (y : Y) (f : Row X → Y) (xs : List X) (i : ℕ) (z : Y) → i < length xs → ((x : X) → Stands xs i x → z ≡ f (record { item = x; row = i })) → z ≡ row-or y f 0 xs i
+row-is y f xs i z h e = row-from y f 0 xs i z h (λ x s. e x s ∙ ap (λ k. f (record { item = x; row = k })) (zero-plus i))
+  where
+    zero-plus : (i : ℕ) → i ≡ 0 + i
+    zero-plus i = omega arith
+
+-- what holds of y and of f at every row holds of the value
+pub row-all : {X Y : Type 0} (P : Y → Type 0) (y : Y) (f : Row X → Y) (n : ℕ) (xs : List X) (i : ℕ) → P y → ((r : Row X) → P (f r)) → P (row-or y f n xs i)
+unfolding row-or
+row-all P y f n [] i h k = h
+row-all P y f n (x ∷ xs) zero h k = k (record { item = x; row = n })
+row-all P y f n (x ∷ xs) (suc i) h k = row-all P y f (suc n) xs i h k
 
 -- a sum that takes its first number first
 sum-front : (f : ℕ → ℤ) (n : ℕ) → sum-to f (suc n) ≡ f 0 +ℤ sum-to (λ i. f (suc i)) n
@@ -212,11 +227,14 @@ sum-nothing zero = refl
 sum-nothing (suc n) = let k = sum-nothing n in omega (arith, lin)
 
 -- the sum of the values of the first rows
-pub sum-rows : {X : Type 0} (f : Row X → ℤ) (k : ℕ) (xs : List X) (n : ℕ) → sum-to (row-value f k xs) n ≡ total f (numbered k (take n xs))
-unfolding row-value total numbered sum-to
-sum-rows f k xs zero = refl
-sum-rows f k [] (suc n) = sum-nothing (suc n)
-sum-rows f k (x ∷ xs) (suc n) = sum-front (row-value f k (x ∷ xs)) n ∙ ap (λ s. f (record { item = x; row = k }) +ℤ s) (sum-rows f (suc k) xs n)
+sum-from : {X : Type 0} (f : Row X → ℤ) (k : ℕ) (xs : List X) (n : ℕ) → sum-to (row-or (pos 0) f k xs) n ≡ total f (numbered k (take n xs))
+unfolding row-or total numbered sum-to
+sum-from f k xs zero = refl
+sum-from f k [] (suc n) = sum-nothing (suc n)
+sum-from f k (x ∷ xs) (suc n) = sum-front (row-or (pos 0) f k (x ∷ xs)) n ∙ ap (λ s. f (record { item = x; row = k }) +ℤ s) (sum-from f (suc k) xs n)
+
+pub sum-rows : {X : Type 0} (f : Row X → ℤ) (xs : List X) (n : ℕ) → sum-to (row-value f xs) n ≡ total f (rows (take n xs))
+sum-rows f xs n = sum-from f 0 xs n
 
 pub sum-same : (f g : ℕ → ℤ) (n : ℕ) → ((i : ℕ) → i < n → f i ≡ g i) → sum-to f n ≡ sum-to g n
 unfolding sum-to
@@ -255,21 +273,10 @@ passed P xs i x s not h =
 pub holds-below : {X : Type 0} (P : Row X → Type 0) (xs : List X) (i : ℕ) → Holds-at P xs i → i < length xs
 holds-below P xs i h = stands-below xs i (h .item) (h .stands)
 
--- the value of a row, by what its item is
-value-from : {X : Type 0} (f : Row X → ℤ) (n : ℕ) (xs : List X) (i : ℕ) (z : ℤ) → i < length xs → ((x : X) → Stands xs i x → z ≡ f (record { item = x; row = n + i })) → z ≡ row-value f n xs i
-unfolding row-value Stands
-value-from f n [] i z h e = absurd (omega arith)
-value-from f n (x ∷ xs) zero z h e = e x refl ∙ ap (λ k. f (record { item = x; row = k })) (plus-zero n)
-  where
-    plus-zero : (n : ℕ) → n + 0 ≡ n
-    plus-zero n = omega arith
-value-from f n (x ∷ xs) (suc i) z h e = value-from f (suc n) xs i z (omega arith) (λ y s. e y s ∙ ap (λ k. f (record { item = y; row = k })) (shifted n i))
-  where
-    shifted : (n i : ℕ) → n + suc i ≡ suc n + i
-    shifted n i = omega arith
+-- the size of a sum over a table's first rows, and that it can be taken
+pub rows-within : {X : Type 0} (m : ℕ) (f : Row X → ℤ) (xs : List X) (n : ℕ) → ((r : Row X) → Within m (f r)) → Within (n * m) (total f (rows (take n xs)))
+rows-within m f xs n h =
+    subst (λ z. Within (n * m) z) (sum-rows f xs n) (sum-within m (row-value f xs) n (λ i l. row-all (Within m) (pos 0) f 0 xs i (omega (arith, lin)) h))
 
-pub row-value-is : {X : Type 0} (f : Row X → ℤ) (xs : List X) (i : ℕ) (z : ℤ) → i < length xs → ((x : X) → Stands xs i x → z ≡ f (record { item = x; row = i })) → z ≡ row-value f 0 xs i
-row-value-is f xs i z h e = value-from f 0 xs i z h (λ x s. e x s ∙ ap (λ k. f (record { item = x; row = k })) (zero-plus i))
-  where
-    zero-plus : (i : ℕ) → i ≡ 0 + i
-    zero-plus i = omega arith
+pub rows-small : {X : Type 0} (m : ℕ) (f : Row X → ℤ) (xs : List X) (n : ℕ) → m ≤ 36000000000000000 → ((r : Row X) → Within m (f r)) → Small (row-value f xs) n
+rows-small m f xs n l h i k = row-all (Within 36000000000000000) (pos 0) f 0 xs i (omega (arith, lin)) (λ r. let w = h r in omega (arith, lin))

@@ -70,8 +70,16 @@ sum-to f (suc n) = sum-to f n +ℤ f n
 abbrev pub Small : (ℕ → ℤ) → ℕ → Type 0
 Small f n = (i : ℕ) → i < n → Within 36000000000000000 (f i)
 
--- f of the row i, where the table's first row has the number n; 0 past its end
-unfoldable pub row-value : {X : Type 0} → (Row X → ℤ) → ℕ → List X → ℕ → ℤ
-row-value f n [] i = pos 0
-row-value f n (x ∷ xs) zero = f (record { item = x; row = n })
-row-value f n (x ∷ xs) (suc i) = row-value f (suc n) xs i
+-- f of the row i, where the table's first row has the number n; y past its end
+unfoldable pub row-or : {X Y : Type 0} → Y → (Row X → Y) → ℕ → List X → ℕ → Y
+row-or y f n [] i = y
+row-or y f n (x ∷ xs) zero = f (record { item = x; row = n })
+row-or y f n (x ∷ xs) (suc i) = row-or y f (suc n) xs i
+
+-- a number of the row i; 0 past the end
+abbrev pub row-value : {X : Type 0} → (Row X → ℤ) → List X → ℕ → ℤ
+row-value f xs i = row-or (pos 0) f 0 xs i
+
+-- a test of the row i; it fails past the end
+abbrev pub row-test : {X : Type 0} → (Row X → Bool) → List X → ℕ → Bool
+row-test f xs i = row-or false f 0 xs i

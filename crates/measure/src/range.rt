@@ -1,5 +1,7 @@
 // Tests of ranges.
 ghost use mathlib.Core.Path.{_≡_};
+ghost use mathlib.Core.Bool.{not};
+ghost use lib.IntN.{pos, negℤ};
 ghost use Rattle.measure.specs.Range.{between, kept};
 ghost use Rattle.measure.specs.Rows.{only};
 
@@ -8,6 +10,14 @@ pub fn is_between(low: i64, high: i64, z: i64) -> bool
     ensures { λ r. ⌜ r ≡ between low high z ⌝ }
 {
     (low <= z) & (z <= high)
+}
+
+// Whether z lies outside ±limit.
+pub fn is_beyond(limit: u32, z: i64) -> bool
+    ensures { λ r. ⌜ r ≡ not (between (negℤ (pos limit)) (pos limit) z) ⌝ }
+{
+    let limit = limit as i64;
+    !is_between(-limit, limit, z)
 }
 
 // z where low ≤ z ≤ high, else 0.

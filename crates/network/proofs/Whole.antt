@@ -1,19 +1,23 @@
 -- The quantities of the model at whole numbers: their sizes.
-use Prim.Native.Nat.{ℕ, zero, suc, _-_, _≤_, _<_}
+use Prim.Native.Nat.{ℕ, zero, suc, _-_, _*_, _≤_, _<_}
 use mathlib.Core.Path.{_≡_, refl, ap}
 use mathlib.Core.Bool.{Bool, true, false}
 use native.Mathlib.Omega.{arith}
+use native.Mathlib.Nat.{mul-le-mul-right}
+use mathlib.Core.List.{List}
+use lib.ListN.{take}
 use lib.Dec.{lit<, ltb, eqb}
 use lib.IntN.{ℤ, pos, _-ℤ_, _*ℤ_}
 use mir.Syntax.{w64}
 use mir.Val.{SFits}
 use Rattle.measure.specs.Range.{Within}
-use Rattle.measure.specs.Rows.{only}
+use Rattle.measure.specs.Rows.{Row, rows, total, only}
 use Rattle.measure.proofs.Laws.{lin}
 use Rattle.measure.proofs.Order.{product-within, kept-within}
 use Rattle.measure.proofs.Sizes.{fits}
+use Rattle.measure.proofs.Sums.{rows-within}
 use Rattle.network.specs.Ranges.{Carried}
-use Rattle.network.specs.Whole.{kept-angle, kept-power, angle-of, difference-of, flow-of, outflow-of}
+use Rattle.network.specs.Whole.{kept-angle, kept-power, angle-of, difference-of, flow-of, outflow-of, given-at}
 use Rattle.network.specs.declared.branch.Branch.{Branch}
 
 pub only-within : (n : ℕ) (t : Bool) (z : ℤ) → Within n z → Within n (only t z)
@@ -62,3 +66,13 @@ module _ (n : ℕ) (θ : ℕ → ℤ) (r : Branch) where
       let a = only-within 8000000000000 (eqb (r .ends .from) k) (flow-of (angle-of n θ) r) f in
       let b = only-within 8000000000000 (eqb (r .ends .to) k) (flow-of (angle-of n θ) r) f in
       omega (arith, lin)
+
+pub given-within : {M : Type 0} (place : ℕ → ℕ) (p : ℕ → ℤ) (n : ℕ) (r : Row M) → Within 100000000 (given-at place p n r)
+given-within place p n r = only-within 100000000 (eqb (place (r .row)) n) (kept-power (p (r .row))) (kept-within 100000000 (p (r .row)))
+
+-- a sum over at most 255 rows
+pub few-within : {X : Type 0} (m : ℕ) (f : Row X → ℤ) (xs : List X) (n : ℕ) → n ≤ 255 → ((r : Row X) → Within m (f r)) → Within (255 * m) (total f (rows (take n xs)))
+few-within m f xs n l h =
+    let w = rows-within m f xs n h in
+    let k = mul-le-mul-right m l in
+    (omega (arith, lin, w .0, k), omega (arith, lin, w .1, k))

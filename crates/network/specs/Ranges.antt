@@ -20,3 +20,10 @@ pub record Carried (b δ s : ℤ) : Type 0 where
   pub susceptance : Within 1000000 b
   pub difference : Within 6400000 δ
   pub shift : Within 1600000 s
+
+-- what two groups give at a bus, its demand, and what flows out
+pub record Nets (first second demand outflow : ℤ) : Type 0 where
+  pub first-range : Within 25500000000 first
+  pub second-range : Within 25500000000 second
+  pub demand-range : Within 100000000 demand
+  pub outflow-range : Within 4080000000000000 outflow

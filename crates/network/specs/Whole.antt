@@ -1,10 +1,12 @@
 -- The quantities of the model at a dispatch in whole numbers. Powers and angles outside their ranges count as 0 here, so that no sum
 -- overflows; a dispatch that has one is refused before it is judged further.
+use mathlib.Core.Bool.{Bool, not, _&&_}
 use mathlib.Core.List.{List}
-use Prim.Native.Nat.{ℕ, zero, suc}
+use Prim.Native.Nat.{ℕ, zero, suc, _-_}
 use lib.Dec.{eqb, ltb}
 use lib.IntN.{ℤ, pos, negℤ, _+ℤ_, _-ℤ_, _*ℤ_}
-use Rattle.measure.specs.Range.{kept}
+use lib.Signed.{ltZ}
+use Rattle.measure.specs.Range.{between, kept}
 use Rattle.measure.specs.Rows.{Row, rows, total, only}
 use Rattle.network.specs.declared.bus.Bus.{Bus}
 use Rattle.network.specs.declared.branch.Branch.{Branch}
@@ -44,3 +46,20 @@ abbrev pub mismatch-of : {M N : Type 0} → Case M N → (ℕ → ℤ) → (ℕ 
 mismatch-of {M} {N} c p₁ p₂ θ b =
     total (given-at (c .first .place) p₁ (b .row)) (rows (c .first .machines)) +ℤ total (given-at (c .second .place) p₂ (b .row)) (rows (c .second .machines))
     -ℤ b .item .demand .0 -ℤ total (outflow-row θ (b .row)) (rows (c .branches))
+
+-- ---- the limits as tests
+-- the bus in row i, not the reference, is given an angle outside the range
+abbrev pub angle-beyond : (ℕ → ℤ) → ℕ → Bool
+angle-beyond θ i = ltb 0 i && not (between (negℤ angle-limit) angle-limit (θ (i - 1)))
+
+-- a bus is out of balance
+abbrev pub unbalanced : {M N : Type 0} → Case M N → (ℕ → ℤ) → (ℕ → ℤ) → (ℕ → ℤ) → Row Bus → Bool
+unbalanced c p₁ p₂ θ b = not (between (negℤ (c .tolerance)) (c .tolerance) (mismatch-of c p₁ p₂ θ b))
+
+-- a branch in service carries more than its rating
+abbrev pub overloaded : (ℕ → ℤ) → Branch → Bool
+overloaded θ r = r .service && ltZ (pos 0) (r .rating .0) && not (between (negℤ (r .rating .0)) (r .rating .0) (flow-of θ r))
+
+-- a branch in service has an angle difference outside its limits
+abbrev pub overstretched : (ℕ → ℤ) → Branch → Bool
+overstretched θ r = r .service && not (between (r .angmin .0) (r .angmax .0) (difference-of θ r))

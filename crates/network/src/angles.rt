@@ -12,10 +12,10 @@ use measure::range::only_if;
 pub const ANGLE_LIMIT: i64 = 3_200_000;
 
 // The angles that a dispatch gives, at so many buses.
-#[derive(Clone, Copy)]
+#[derive_where(Clone, Copy)]
 pub(crate) struct Angles<'a, C> {
     pub(crate) given: &'a C,
-    pub(crate) buses: usize,
+    pub(crate) buses: u8,
 }
 
 // A susceptance times the angle difference less the shift.
@@ -31,11 +31,10 @@ impl<'a, C: Column> Angles<'a, C> {
     pub(crate) fn at_bus(&self, row: u8) -> i64
         ensures { λ r. ⌜ r ≡ angle-of (now (self .entry) .buses) (C·Column .value (now (now (self .entry) .given))) row ⌝ }
     {
-        let row = row as usize;
         if row == 0 {
             return 0;
         }
-        let angle = keep(-ANGLE_LIMIT, ANGLE_LIMIT, self.given.at(row - 1));
+        let angle = keep(-ANGLE_LIMIT, ANGLE_LIMIT, self.given.at(row as usize - 1));
         only_if(row < self.buses, angle)
     }
 

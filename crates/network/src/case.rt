@@ -5,7 +5,7 @@ use crate::branch::Branch;
 use crate::bus::Bus;
 
 // Machines of one kind: a table, of which the first rows are the case's, and the row of each one's bus.
-#[derive(Clone, Copy)]
+#[derive_where(Clone, Copy)]
 pub struct Machines<'a, M> {
     pub rows: &'a [M],
     pub places: &'a [u8],
@@ -26,7 +26,7 @@ impl<'a, M> Machines<'a, M> {
 }
 
 // A case: the tolerance of the balance in watts, buses, machines of two kinds and branches. The first rows of each table are the case's.
-#[derive(Clone, Copy)]
+#[derive_where(Clone, Copy)]
 pub struct Case<'a, M, N> {
     pub tolerance: u32,
     pub buses: &'a [Bus],
@@ -37,9 +37,13 @@ pub struct Case<'a, M, N> {
     pub nl: u8,
 }
 
-// How many of a table's rows are among its first so many.
-pub(crate) fn rows_used<T>(table: &[T], count: u8) -> usize
+// How many rows the case has of a table.
+pub(crate) fn rows_used<T>(table: &[T], count: u8) -> u8
     ensures { λ r. ⌜ r ≡ length (take count (now (table .entry))) ⌝ }
 {
-    table.len().min(count as usize)
+    if table.len() < count as usize {
+        table.len() as u8
+    } else {
+        count
+    }
 }

@@ -4,4 +4,5 @@ pub mod balance;
 pub mod branch;
 pub mod bus;
 pub mod case;
+pub mod dispatch;
 pub mod theorems;

@@ -23,7 +23,7 @@ next g c =
     let n = c .loop-row .row in
     let t = c .loop-row-test .taken in
     sum-fits (c .loop-row .sum) (c .at-sum .result) n (omega arith)
-    (rw (so-far g c) (sum-within f n (λ i l. c .pre i (omega arith))))
+    (rw (so-far g c) (sum-within 36000000000000000 f n (λ i l. c .pre i (omega arith))))
     (rw (c .at-sum .ensures) (c .pre n (omega arith)))
 
 pub add-sum : need.add-sum

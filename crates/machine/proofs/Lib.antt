@@ -1,0 +1,4 @@
+pub mod Idle
+pub mod InRange
+pub mod Answering
+pub mod Totals

@@ -1,2 +1,4 @@
 pub mod Meaning
+pub mod Idle
+pub mod Limits
 pub mod Group

@@ -38,7 +38,6 @@ total-most f g (x ∷ xs) h = add-most (f x) (totalᶠ f xs) (g x) (total g xs) 
 
 -- one group
 group-covers : {M : Type 0} (𝓜 : Meaning M) → Keeps 𝓜 → (ms : List M) (p : ℕ → ℤ) → All (λ (r : Row M). 𝓜 .Allowed (r .item) (whole (p (r .row)))) (rows ms) → true-cost-of 𝓜 ms (λ i. whole (p i)) ≤ᶠ whole (counted-cost 𝓜 ms p)
-unfolding true-cost-of counted-cost
 group-covers {M} 𝓜 keeps ms p allowed =
     total-most (λ (r : Row M). 𝓜 .true-cost (r .item) (whole (p (r .row)))) (λ (r : Row M). 𝓜 .cost-answer (r .item) (p (r .row))) (rows ms)
     (λ r k. keeps (r .item) .answer-is (p (r .row)) (look (λ (r : Row M). 𝓜 .Allowed (r .item) (whole (p (r .row)))) r (rows ms) allowed k) .above)

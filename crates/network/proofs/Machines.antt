@@ -33,7 +33,6 @@ module _ {M : Type 0} (𝓜 : Meaning M) (g : Group M) (p : ℕ → Fraction) (D
   Costs-over = (r : Row M) → In r (rows (g .machines)) → Over D (cost-of 𝓜 p r) (scaled D (cost-of 𝓜 p r))
 
   pub over-cost : Costs-over → Over D (true-cost-of 𝓜 (g .machines) p) costᶻ
-  unfolding true-cost-of
   over-cost costs = over-total D (cost-of 𝓜 p) (λ r. scaled D (cost-of 𝓜 p r)) (rows (g .machines)) costs
 
 module _ {M : Type 0} (𝓜 : Meaning M) (keeps : Keeps 𝓜) (g : Group M) (p : ℕ → Fraction) (D : ℕ) (x : ℕ → ℤ) (L : ℕ → ℤ) where
@@ -54,7 +53,7 @@ module _ {M : Type 0} (𝓜 : Meaning M) (keeps : Keeps 𝓜) (g : Group M) (p :
         omega (arith, lin, *ℤ-comm (margin r) (pos D))
 
     pub group-low : (bs : List Bus) → ((i : ℕ) → length bs ≤ i → L i ≡ pos 0) → (pos D *ℤ total-margins 𝓜 (g .machines) (λ i. L (g .place i)) +ℤ total (λ (b : Row Bus). L (b .row) *ℤ injectionᶻ g x (b .row)) (rows bs)) ≤ℤ costᶻ 𝓜 g p D
-    unfolding total-margins injectionᶻ
+    unfolding injectionᶻ
     group-low bs beyond =
         let each = total-le (λ (r : Row M). pos D *ℤ margin r +ℤ worth r) (λ (r : Row M). scaled D (cost-of 𝓜 p r)) (rows (g .machines)) machine-low in
         let e = total-add (λ (r : Row M). pos D *ℤ margin r) worth (rows (g .machines)) in

@@ -5,3 +5,4 @@ pub mod View
 pub mod Floor
 pub mod Nodal
 pub mod Theorems
+pub mod Refusals

@@ -5,4 +5,5 @@ pub mod branch;
 pub mod bus;
 pub mod case;
 pub mod dispatch;
+pub mod refusal;
 pub mod theorems;

@@ -1,0 +1,4 @@
+pub mod Forms
+pub mod Keeping
+pub mod Sizes
+pub mod RowSizes

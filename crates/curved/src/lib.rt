@@ -1,0 +1,3 @@
+// Machines with a quadratic cost.
+pub mod curved;
+mod quadratic;

@@ -1,0 +1,5 @@
+pub mod Forms
+pub mod Keeping
+pub mod Sizes
+pub mod Slices
+pub mod RowTest

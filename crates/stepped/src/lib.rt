@@ -1,0 +1,3 @@
+// Machines with a cost in straight pieces.
+mod piecewise;
+pub mod stepped;

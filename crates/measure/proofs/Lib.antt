@@ -6,3 +6,4 @@ pub mod Fractions
 pub mod Sums
 pub mod Scale
 pub mod Sizes
+pub mod Tested

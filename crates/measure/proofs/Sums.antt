@@ -280,3 +280,13 @@ rows-within m f xs n h =
 
 pub rows-small : {X : Type 0} (m : ℕ) (f : Row X → ℤ) (xs : List X) (n : ℕ) → m ≤ 36000000000000000 → ((r : Row X) → Within m (f r)) → Small (row-value f xs) n
 rows-small m f xs n l h i k = row-all (Within 36000000000000000) (pos 0) f 0 xs i (omega (arith, lin)) (λ r. let w = h r in omega (arith, lin))
+
+-- an element of a table stands in one of its rows
+rows-from : {X : Type 0} (n : ℕ) (xs : List X) (x : X) → In x xs → (i : ℕ) × In (record { item = x; row = i }) (numbered n xs)
+unfolding numbered
+rows-from n [] x k = elim k [ ]
+rows-from n (y ∷ xs) x here = (n, here)
+rows-from n (y ∷ xs) x (there k) = let s = rows-from (suc n) xs x k in (s .0, there (s .1))
+
+pub in-rows : {X : Type 0} (xs : List X) (x : X) → In x xs → (i : ℕ) × In (record { item = x; row = i }) (rows xs)
+in-rows xs x k = rows-from 0 xs x k

@@ -8,3 +8,7 @@ pub mod Duality
 pub mod Counted
 pub mod Nodal
 pub mod Whole
+pub mod Judging
+pub mod Used
+pub mod Verdicts
+pub mod Findings

@@ -6,3 +6,5 @@ pub mod Floor
 pub mod Nodal
 pub mod Theorems
 pub mod Refusals
+pub mod Judged
+pub mod Judging

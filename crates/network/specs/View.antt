@@ -5,7 +5,8 @@ use lib.ListN.{getD, take}
 use denote.Ref.{now}
 use Rattle.network.specs.declared.case.Machines.{Machines}
 use Rattle.network.specs.declared.case.Case as view
-use Rattle.network.specs.Model.{Group, Case}
+use Rattle.network.specs.declared.dispatch.Dispatch.{Dispatch}
+use Rattle.network.specs.Model.{Group, Case, Whole-dispatch}
 
 abbrev pub group-of : {M : Type 0} → Machines M → Group M
 group-of m = record { machines = take (m .count) (now (m .rows)); place = λ i. getD (now (m .places)) i 0 }
@@ -19,3 +20,7 @@ case-of c =
       second = group-of (c .second);
       branches = take (c .nl) (now (c .branches));
     }
+
+-- the dispatch that three columns give; `value` reads a column
+abbrev pub dispatch-of : {C : Type 0} → (C → ℕ → ℤ) → Dispatch C → Whole-dispatch
+dispatch-of value d = record { first = value (now (d .first)); second = value (now (d .second)); angles = value (now (d .angles)) }

@@ -1,8 +1,8 @@
 -- The quantities of the model at a dispatch in whole numbers. Powers and angles outside their ranges count as 0 here, so that no sum
 -- overflows; a dispatch that has one is refused before it is judged further.
-use mathlib.Core.Bool.{Bool, not, _&&_}
+use mathlib.Core.Bool.{Bool, false, not, _&&_}
 use mathlib.Core.List.{List}
-use Prim.Native.Nat.{ℕ, zero, suc, _-_}
+use Prim.Native.Nat.{ℕ, zero, suc}
 use lib.Dec.{eqb, ltb}
 use lib.IntN.{ℤ, pos, negℤ, _+ℤ_, _-ℤ_, _*ℤ_}
 use lib.Signed.{ltZ}
@@ -50,7 +50,8 @@ mismatch-of {M} {N} c p₁ p₂ θ b =
 -- ---- the limits as tests
 -- the bus in row i, not the reference, is given an angle outside the range
 abbrev pub angle-beyond : (ℕ → ℤ) → ℕ → Bool
-angle-beyond θ i = ltb 0 i && not (between (negℤ angle-limit) angle-limit (θ (i - 1)))
+angle-beyond θ zero = false
+angle-beyond θ (suc i) = not (between (negℤ angle-limit) angle-limit (θ i))
 
 -- a bus is out of balance
 abbrev pub unbalanced : {M N : Type 0} → Case M N → (ℕ → ℤ) → (ℕ → ℤ) → (ℕ → ℤ) → Row Bus → Bool
@@ -63,3 +64,9 @@ overloaded θ r = r .service && ltZ (pos 0) (r .rating .0) && not (between (neg�
 -- a branch in service has an angle difference outside its limits
 abbrev pub overstretched : (ℕ → ℤ) → Branch → Bool
 overstretched θ r = r .service && not (between (r .angmin .0) (r .angmax .0) (difference-of θ r))
+
+abbrev pub overloaded-row : (ℕ → ℤ) → Row Branch → Bool
+overloaded-row θ r = overloaded θ (r .item)
+
+abbrev pub overstretched-row : (ℕ → ℤ) → Row Branch → Bool
+overstretched-row θ r = overstretched θ (r .item)

@@ -35,7 +35,7 @@ pub(crate) struct Injections<'a, M, C> {
     pub(crate) bus: usize,
 }
 
-impl<'a, M, C: Column> Column for Injections<'a, M, C> as InjectionsColumn {
+pub(crate) impl<'a, M, C: Column> Column for Injections<'a, M, C> as InjectionsColumn {
     ghost value = { λ s. row-value (given-at (λ i. getD (now (s .machines .places)) i 0) (C·Column .value (now (s .powers))) (s .bus)) (now (s .machines .rows)) };
 
     fn at(&self, row: usize) -> i64 {
@@ -86,7 +86,7 @@ impl<'a, C: Column> Outflows<'a, C> {
     }
 }
 
-impl<'a, C: Column> Column for Outflows<'a, C> as OutflowsColumn {
+pub(crate) impl<'a, C: Column> Column for Outflows<'a, C> as OutflowsColumn {
     ghost value = { λ s. row-value (outflow-row (angle-of (s .angles .buses) (C·Column .value (now (s .angles .given)))) (s .bus)) (now (s .branches)) };
 
     fn at(&self, row: usize) -> i64 {
@@ -144,7 +144,7 @@ impl<'a, M, N, C: Column> Balance<'a, M, N, C> {
     }
 }
 
-impl<'a, M, N, C: Column> Limit for Balance<'a, M, N, C> as BalanceLimit {
+pub(crate) impl<'a, M, N, C: Column> Limit for Balance<'a, M, N, C> as BalanceLimit {
     ghost broken = { λ s. row-test (unbalanced (case-of (s .case)) (C·Column .value (now (s .first))) (C·Column .value (now (s .second))) (angle-of (s .angles .buses) (C·Column .value (now (s .angles .given))))) (now (s .case .buses)) };
 
     fn is_broken(&self, row: usize) -> bool {

@@ -1,5 +1,6 @@
 // A case, as a view of lent tables.
 ghost use mathlib.Core.Path.{_≡_};
+ghost use Prim.Native.Nat.{_≤_};
 ghost use lib.ListN.{getD, length, take};
 use crate::branch::Branch;
 use crate::bus::Bus;
@@ -13,6 +14,14 @@ pub struct Machines<'a, M> {
 }
 
 impl<'a, M> Machines<'a, M> {
+    // The case's machines.
+    pub(crate) fn used(&self) -> &'a [M]
+        ensures exact { λ r. ⌜ now r ≡ take (now (self .entry) .count) (now (now (self .entry) .rows)) ⌝ }
+        ensures few { λ r. ⌜ length (now r) ≤ 255 ⌝ }
+    {
+        &self.rows[0..rows_used(self.rows, self.count) as usize]
+    }
+
     // The row of the bus of the machine in that row.
     pub(crate) fn place(&self, row: usize) -> u8
         ensures { λ r. ⌜ r ≡ getD (now (now (self .entry) .places)) row 0 ⌝ }

@@ -5,5 +5,7 @@ pub mod branch;
 pub mod bus;
 pub mod case;
 pub mod dispatch;
+pub mod judge;
+mod limits;
 pub mod refusal;
 pub mod theorems;

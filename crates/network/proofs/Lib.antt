@@ -12,3 +12,4 @@ pub mod Judging
 pub mod Used
 pub mod Verdicts
 pub mod Findings
+pub mod Pinned

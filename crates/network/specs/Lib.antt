@@ -8,3 +8,4 @@ pub mod Theorems
 pub mod Refusals
 pub mod Judged
 pub mod Judging
+pub mod Floored

@@ -1,0 +1,5 @@
+pub mod Standing
+pub mod Sizes
+pub mod Filling
+pub mod Known
+pub mod Forming

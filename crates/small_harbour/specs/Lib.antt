@@ -1,0 +1,2 @@
+pub mod Harbour
+pub mod Example

@@ -1,0 +1,2 @@
+// The small harbour, a worked example.
+pub mod example;

@@ -23,4 +23,4 @@ case-of c =
 
 -- the dispatch that three columns give; `value` reads a column
 abbrev pub dispatch-of : {C : Type 0} → (C → ℕ → ℤ) → Dispatch C → Whole-dispatch
-dispatch-of value d = record { first = value (now (d .first)); second = value (now (d .second)); angles = value (now (d .angles)) }
+dispatch-of value d = record { first = value (d .first); second = value (d .second); angles = value (d .angles) }

@@ -29,13 +29,13 @@ pub const POWER_LIMIT: i64 = 100_000_000;
 
 // What each machine of a group gives at one bus.
 #[derive_where(Clone, Copy)]
-pub(crate) struct Injections<'a, M, C> {
+pub(crate) struct Injections<'a, 'd, M, C> {
     pub(crate) machines: Machines<'a, M>,
-    pub(crate) powers: &'a C,
+    pub(crate) powers: &'d C,
     pub(crate) bus: usize,
 }
 
-pub(crate) impl<'a, M, C: Column> Column for Injections<'a, M, C> as InjectionsColumn {
+pub(crate) impl<'a, 'd, M, C: Column> Column for Injections<'a, 'd, M, C> as InjectionsColumn {
     ghost value = { λ s. row-value (given-at (λ i. getD (now (s .machines .places)) i 0) (C·Column .value (now (s .powers))) (s .bus)) (now (s .machines .rows)) };
 
     fn at(&self, row: usize) -> i64 {
@@ -48,7 +48,7 @@ pub(crate) impl<'a, M, C: Column> Column for Injections<'a, M, C> as InjectionsC
     }
 }
 
-impl<'a, M, C: Column> Injections<'a, M, C> {
+impl<'a, 'd, M, C: Column> Injections<'a, 'd, M, C> {
     // What the group gives at the bus.
     pub(crate) fn total(&self) -> i64
         ensures small { λ r. ⌜ Within 25500000000 r ⌝ }
@@ -60,13 +60,13 @@ impl<'a, M, C: Column> Injections<'a, M, C> {
 
 // What leaves one bus by each branch, less what arrives.
 #[derive_where(Clone, Copy)]
-pub(crate) struct Outflows<'a, C> {
+pub(crate) struct Outflows<'a, 'd, C> {
     pub(crate) branches: &'a [Branch],
-    pub(crate) angles: Angles<'a, C>,
+    pub(crate) angles: Angles<'d, C>,
     pub(crate) bus: usize,
 }
 
-impl<'a, C: Column> Outflows<'a, C> {
+impl<'a, 'd, C: Column> Outflows<'a, 'd, C> {
     // What leaves the bus by that branch, less what arrives.
     fn by(&self, branch: &Branch) -> i64
         ensures { λ r. ⌜ r ≡ outflow-of (angle-of (now (self .entry) .angles .buses) (C·Column .value (now (now (self .entry) .angles .given)))) (now (self .entry) .bus) (now (branch .entry)) ⌝ }
@@ -86,7 +86,7 @@ impl<'a, C: Column> Outflows<'a, C> {
     }
 }
 
-pub(crate) impl<'a, C: Column> Column for Outflows<'a, C> as OutflowsColumn {
+pub(crate) impl<'a, 'd, C: Column> Column for Outflows<'a, 'd, C> as OutflowsColumn {
     ghost value = { λ s. row-value (outflow-row (angle-of (s .angles .buses) (C·Column .value (now (s .angles .given)))) (s .bus)) (now (s .branches)) };
 
     fn at(&self, row: usize) -> i64 {
@@ -108,14 +108,14 @@ fn net(first: i64, second: i64, demand: i64, outflow: i64) -> i64
 
 // The balance at each bus of a case under a dispatch.
 #[derive_where(Clone, Copy)]
-pub(crate) struct Balance<'a, M, N, C> {
+pub(crate) struct Balance<'a, 'd, M, N, C> {
     pub(crate) case: Case<'a, M, N>,
-    pub(crate) first: &'a C,
-    pub(crate) second: &'a C,
-    pub(crate) angles: Angles<'a, C>,
+    pub(crate) first: &'d C,
+    pub(crate) second: &'d C,
+    pub(crate) angles: Angles<'d, C>,
 }
 
-impl<'a, M, N, C: Column> Balance<'a, M, N, C> {
+impl<'a, 'd, M, N, C: Column> Balance<'a, 'd, M, N, C> {
     // Machines' power - demand - flows leaving + flows arriving, at the bus in that row.
     fn mismatch(&self, row: usize, bus: &Bus) -> i64
         ensures { λ r. ⌜ r ≡ mismatch-of (case-of (now (self .entry) .case)) (C·Column .value (now (now (self .entry) .first))) (C·Column .value (now (now (self .entry) .second))) (angle-of (now (self .entry) .angles .buses) (C·Column .value (now (now (self .entry) .angles .given)))) (record { item = now (bus .entry); row = row }) ⌝ }
@@ -144,7 +144,7 @@ impl<'a, M, N, C: Column> Balance<'a, M, N, C> {
     }
 }
 
-pub(crate) impl<'a, M, N, C: Column> Limit for Balance<'a, M, N, C> as BalanceLimit {
+pub(crate) impl<'a, 'd, M, N, C: Column> Limit for Balance<'a, 'd, M, N, C> as BalanceLimit {
     ghost broken = { λ s. row-test (unbalanced (case-of (s .case)) (C·Column .value (now (s .first))) (C·Column .value (now (s .second))) (angle-of (s .angles .buses) (C·Column .value (now (s .angles .given))))) (now (s .case .buses)) };
 
     fn is_broken(&self, row: usize) -> bool {

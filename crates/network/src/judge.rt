@@ -28,14 +28,14 @@ use measure::limit::first_broken;
 
 impl<'a, M: Machine, N: Machine> Case<'a, M, N> {
     // The sum of the machines' costs, or the row of a machine that does not allow its power.
-    fn cost<C: Column>(&self, dispatch: &Dispatch<'a, C>) -> Result<Grains, Refusal>
+    fn cost<C: Column>(&self, dispatch: &Dispatch<C>) -> Result<Grains, Refusal>
         ensures { λ r. ⌜ Cost-answer (M·Machine .meaning) (N·Machine .meaning) (case-of (now (self .entry))) (dispatch-of (C·Column .value) (now (dispatch .entry))) r ⌝ }
     {
         let first = self.first.used();
         let second = self.second.used();
-        match total_cost(first, dispatch.first) {
+        match total_cost(first, &dispatch.first) {
             Err(row) => Err(Refusal::NotAllowed(row)),
-            Ok(one) => match total_cost(second, dispatch.second) {
+            Ok(one) => match total_cost(second, &dispatch.second) {
                 Err(row) => Err(Refusal::NotAllowed(first.len() + row)),
                 Ok(other) => Ok(Grains(one.0 + other.0)),
             },
@@ -43,25 +43,25 @@ impl<'a, M: Machine, N: Machine> Case<'a, M, N> {
     }
 
     // The counted cost of a dispatch that meets the case, or the limit that it breaks.
-    pub fn judge<C: Column>(&self, dispatch: &Dispatch<'a, C>) -> Result<Grains, Refusal>
+    pub fn judge<C: Column>(&self, dispatch: &Dispatch<C>) -> Result<Grains, Refusal>
         ensures { λ r. ⌜ Judged (M·Machine .meaning) (N·Machine .meaning) (case-of (now (self .entry))) (dispatch-of (C·Column .value) (now (dispatch .entry))) r ⌝ }
     {
         let buses = rows_used(self.buses, self.nb);
         let range = AngleRange {
-            angles: dispatch.angles,
+            angles: &dispatch.angles,
         };
         if let Some(row) = first_broken(&range, buses) {
             return Err(Refusal::OutOfRange(row));
         }
         let cost = self.cost(dispatch)?;
         let angles = Angles {
-            given: dispatch.angles,
+            given: &dispatch.angles,
             buses,
         };
         let balance = Balance {
             case: *self,
-            first: dispatch.first,
-            second: dispatch.second,
+            first: &dispatch.first,
+            second: &dispatch.second,
             angles,
         };
         if let Some(row) = first_broken(&balance, self.nb) {

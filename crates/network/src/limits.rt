@@ -30,12 +30,12 @@ pub(crate) impl<'a, C: Column> Limit for AngleRange<'a, C> as AngleRangeLimit {
 
 // The ratings of branches in service that have one.
 #[derive_where(Clone, Copy)]
-pub(crate) struct Ratings<'a, C> {
+pub(crate) struct Ratings<'a, 'd, C> {
     pub(crate) branches: &'a [Branch],
-    pub(crate) angles: Angles<'a, C>,
+    pub(crate) angles: Angles<'d, C>,
 }
 
-impl<'a, C: Column> Ratings<'a, C> {
+impl<'a, 'd, C: Column> Ratings<'a, 'd, C> {
     fn is_overloaded(&self, branch: &Branch) -> bool
         ensures { λ r. ⌜ r ≡ overloaded (angle-of (now (self .entry) .angles .buses) (C·Column .value (now (now (self .entry) .angles .given)))) (now (branch .entry)) ⌝ }
     {
@@ -44,7 +44,7 @@ impl<'a, C: Column> Ratings<'a, C> {
     }
 }
 
-pub(crate) impl<'a, C: Column> Limit for Ratings<'a, C> as RatingsLimit {
+pub(crate) impl<'a, 'd, C: Column> Limit for Ratings<'a, 'd, C> as RatingsLimit {
     ghost broken = { λ s. row-test (overloaded-row (angle-of (s .angles .buses) (C·Column .value (now (s .angles .given))))) (now (s .branches)) };
 
     fn is_broken(&self, row: usize) -> bool {
@@ -58,12 +58,12 @@ pub(crate) impl<'a, C: Column> Limit for Ratings<'a, C> as RatingsLimit {
 
 // The limits of the angle differences of branches in service.
 #[derive_where(Clone, Copy)]
-pub(crate) struct Differences<'a, C> {
+pub(crate) struct Differences<'a, 'd, C> {
     pub(crate) branches: &'a [Branch],
-    pub(crate) angles: Angles<'a, C>,
+    pub(crate) angles: Angles<'d, C>,
 }
 
-impl<'a, C: Column> Differences<'a, C> {
+impl<'a, 'd, C: Column> Differences<'a, 'd, C> {
     fn is_overstretched(&self, branch: &Branch) -> bool
         ensures { λ r. ⌜ r ≡ overstretched (angle-of (now (self .entry) .angles .buses) (C·Column .value (now (now (self .entry) .angles .given)))) (now (branch .entry)) ⌝ }
     {
@@ -76,7 +76,7 @@ impl<'a, C: Column> Differences<'a, C> {
     }
 }
 
-pub(crate) impl<'a, C: Column> Limit for Differences<'a, C> as DifferencesLimit {
+pub(crate) impl<'a, 'd, C: Column> Limit for Differences<'a, 'd, C> as DifferencesLimit {
     ghost broken = { λ s. row-test (overstretched-row (angle-of (s .angles .buses) (C·Column .value (now (s .angles .given))))) (now (s .branches)) };
 
     fn is_broken(&self, row: usize) -> bool {

@@ -1,0 +1,83 @@
+// Judges dispatches and price lists on the small harbour, and prints what becomes of each.
+mod report;
+mod tables;
+
+use build::build::lay;
+use build::tables::Rows;
+use crate::report::judge_all;
+use crate::report::refused;
+use crate::tables::BRANCHES;
+use crate::tables::BUSES;
+use crate::tables::CURVED;
+use crate::tables::STEPPED;
+use curved::curved::CurvedMachine;
+use measure::Microradians;
+use measure::Watts;
+use names::branch::BranchName;
+use network::branch::Branch;
+use network::branch::Ends;
+use network::bus::Bus;
+use network::case::Case;
+use network::case::Machines;
+use std::io;
+use stepped::stepped::SteppedMachine;
+
+// The harbour at one tolerance: built from its tables, then each dispatch and each price list.
+fn run(rt: &LibcRuntime, tolerance: u32) -> io::Result<()> {
+    let mut buses = [Bus {
+        name: 1,
+        demand: Watts(0),
+    }; 2];
+    let mut first = [0u8; 1];
+    let mut second = [0u8; 1];
+    let mut branches = [Branch {
+        name: BranchName {
+            circuit: 1,
+            from: 1,
+            to: 1,
+        },
+        ends: Ends { from: 0, to: 0 },
+        susceptance: 1,
+        shift: Microradians(0),
+        rating: Watts(0),
+        angmin: Microradians(0),
+        angmax: Microradians(0),
+        service: false,
+    }; 1];
+    let rows = Rows {
+        tolerance: Watts(tolerance as i64),
+        buses: &BUSES,
+        first: &STEPPED,
+        second: &CURVED,
+        branches: &BRANCHES,
+    };
+    println!(rt, "tolerance {tolerance}")?;
+    match lay(&rows, &mut buses, &mut first, &mut second, &mut branches) {
+        Err(refusal) => refused(rt, refusal),
+        Ok(counts) => {
+            let case = Case {
+                tolerance,
+                buses: &buses,
+                nb: counts.buses,
+                first: Machines {
+                    rows: &STEPPED,
+                    places: &first,
+                    count: counts.first,
+                },
+                second: Machines {
+                    rows: &CURVED,
+                    places: &second,
+                    count: counts.second,
+                },
+                branches: &branches,
+                nl: counts.branches,
+            };
+            judge_all(rt, &case)
+        }
+    }
+}
+
+fn main(rt: LibcRuntime) -> io::Result<()> {
+    run(&rt, 0)?;
+    run(&rt, 1)
+}

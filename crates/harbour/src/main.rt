@@ -2,14 +2,16 @@
 mod report;
 mod tables;
 
-use build::build::lay;
-use build::tables::Rows;
 use crate::report::judge_all;
 use crate::report::refused;
 use crate::tables::BRANCHES;
 use crate::tables::BUSES;
 use crate::tables::CURVED;
 use crate::tables::STEPPED;
+use build::build::lay;
+use build::tables::Counts;
+use build::tables::Rows;
+use curved::curved::Curved;
 use curved::curved::CurvedMachine;
 use measure::Microradians;
 use measure::Watts;
@@ -20,7 +22,40 @@ use network::bus::Bus;
 use network::case::Case;
 use network::case::Machines;
 use std::io;
+use stepped::stepped::Stepped;
 use stepped::stepped::SteppedMachine;
+
+// The case that the tables hold.
+fn standing<'a>(
+    tolerance: u32,
+    counts: Counts,
+    buses: &'a [Bus],
+    stepped: &'a [Stepped],
+    first: &'a [u8],
+    curved: &'a [Curved],
+    second: &'a [u8],
+    branches: &'a [Branch],
+) -> Case<'a, Stepped, Curved> {
+    let first = Machines {
+        rows: stepped,
+        places: first,
+        count: counts.first,
+    };
+    let second = Machines {
+        rows: curved,
+        places: second,
+        count: counts.second,
+    };
+    Case {
+        tolerance,
+        buses,
+        nb: counts.buses,
+        first,
+        second,
+        branches,
+        nl: counts.branches,
+    }
+}
 
 // The harbour at one tolerance: built from its tables, then each dispatch and each price list.
 fn run(rt: &LibcRuntime, tolerance: u32) -> io::Result<()> {
@@ -28,6 +63,8 @@ fn run(rt: &LibcRuntime, tolerance: u32) -> io::Result<()> {
         name: 1,
         demand: Watts(0),
     }; 2];
+    let stepped = STEPPED;
+    let curved = CURVED;
     let mut first = [0u8; 1];
     let mut second = [0u8; 1];
     let mut branches = [Branch {
@@ -47,31 +84,24 @@ fn run(rt: &LibcRuntime, tolerance: u32) -> io::Result<()> {
     let rows = Rows {
         tolerance: Watts(tolerance as i64),
         buses: &BUSES,
-        first: &STEPPED,
-        second: &CURVED,
+        first: &stepped,
+        second: &curved,
         branches: &BRANCHES,
     };
     println!(rt, "tolerance {tolerance}")?;
     match lay(&rows, &mut buses, &mut first, &mut second, &mut branches) {
         Err(refusal) => refused(rt, refusal),
         Ok(counts) => {
-            let case = Case {
+            let case = standing(
                 tolerance,
-                buses: &buses,
-                nb: counts.buses,
-                first: Machines {
-                    rows: &STEPPED,
-                    places: &first,
-                    count: counts.first,
-                },
-                second: Machines {
-                    rows: &CURVED,
-                    places: &second,
-                    count: counts.second,
-                },
-                branches: &branches,
-                nl: counts.branches,
-            };
+                counts,
+                &buses,
+                &stepped,
+                &first,
+                &curved,
+                &second,
+                &branches,
+            );
             judge_all(rt, &case)
         }
     }

@@ -19,7 +19,16 @@ pub fn refused(rt: &LibcRuntime, refusal: Refusal) -> io::Result<()> {
     println!(rt, "  refused {number} at row {place}")
 }
 
-fn judged<'a>(case: &Case<'a, Stepped, Curved>, first: &'a Table<'a>, second: &'a Table<'a>, angles: &'a Table<'a>) -> Result<Grains, Refusal> {
+// Judges a dispatch of three tables.
+fn judged<'t>(
+    case: &Case<Stepped, Curved>,
+    first: &'t [i64],
+    second: &'t [i64],
+    angles: &'t [i64],
+) -> Result<Grains, Refusal> {
+    let first = Table { values: first };
+    let second = Table { values: second };
+    let angles = Table { values: angles };
     let dispatch = Dispatch {
         first,
         second,
@@ -29,7 +38,7 @@ fn judged<'a>(case: &Case<'a, Stepped, Curved>, first: &'a Table<'a>, second: &'
 }
 
 // Judges each dispatch.
-pub fn judge_all<'a>(rt: &LibcRuntime, case: &Case<'a, Stepped, Curved>) -> io::Result<()> {
+pub fn judge_all(rt: &LibcRuntime, case: &Case<Stepped, Curved>) -> io::Result<()> {
     for offer in OFFERS.iter() {
         let p = offer.first;
         let q = offer.second;
@@ -38,11 +47,7 @@ pub fn judge_all<'a>(rt: &LibcRuntime, case: &Case<'a, Stepped, Curved>) -> io::
         let first = [p];
         let second = [q];
         let angles = [a];
-        let first = Table { values: &first };
-        let second = Table { values: &second };
-        let angles = Table { values: &angles };
-        let judged = judged(case, &first, &second, &angles);
-        match judged {
+        match judged(case, &first, &second, &angles) {
             Ok(cost) => {
                 let grains = cost.0;
                 println!(rt, "  cost {grains}")?;

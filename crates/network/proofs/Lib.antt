@@ -8,3 +8,4 @@ pub mod Duality
 pub mod Counted
 pub mod Nodal
 pub mod Whole
+pub mod Kept

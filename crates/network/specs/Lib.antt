@@ -6,3 +6,4 @@ pub mod Floor
 pub mod Nodal
 pub mod Theorems
 pub mod Refusals
+pub mod Kept

@@ -27,3 +27,10 @@ pub record Nets (first second demand outflow : ℤ) : Type 0 where
   pub second-range : Within 25500000000 second
   pub demand-range : Within 100000000 demand
   pub outflow-range : Within 4080000000000000 outflow
+
+-- a susceptance, the prices at the two ends, and a congestion price
+pub record Weighed (b from to μ : ℤ) : Type 0 where
+  pub susceptance : Within 1000000 b
+  pub from-price : Within 1000000 from
+  pub to-price : Within 1000000 to
+  pub congestion : Within 1000000 μ

@@ -5,5 +5,7 @@ pub mod branch;
 pub mod bus;
 pub mod case;
 pub mod dispatch;
+pub mod prices;
 pub mod refusal;
+mod residue;
 pub mod theorems;

@@ -51,13 +51,14 @@ module _ {M N : Type 0} (c : Case M N) (q : Prices) where
   kept-charge r =
       only (r .item .service) (kept-weight (weight c q r) *ℤ r .item .shift .0 +ℤ ∣ q .congestion (r .row) ∣ *ℤ r .item .rating .0 +ℤ angle-charge c q r)
 
-  -- what a bus adds to the floor: its price × its demand, less the tolerance × its price's size, less the angle limit × its residue's size;
-  -- the last not at the reference
+  -- what a bus adds to the floor: its price × its demand, less the angle limit × its residue's size; the last not at the reference
   unfoldable pub bus-worth : Row Bus → ℤ
   bus-worth b =
-      price c q (b .row) *ℤ b .item .demand .0
-      -ℤ c .tolerance *ℤ ∣ price c q (b .row) ∣
-      -ℤ angle-limit *ℤ ∣ only (ltb 0 (b .row)) (kept-residue (residue c q (b .row))) ∣
+      price c q (b .row) *ℤ b .item .demand .0 -ℤ angle-limit *ℤ ∣ only (ltb 0 (b .row)) (kept-residue (residue c q (b .row))) ∣
+
+  -- the size of a bus's price
+  abbrev pub price-size : Row Bus → ℤ
+  price-size b = ∣ price c q (b .row) ∣
 
 module _ {M N : Type 0} (𝓜 : Meaning M) (𝓝 : Meaning N) where
   unfoldable pub kept-floor : Case M N → Prices → ℤ
@@ -65,4 +66,5 @@ module _ {M N : Type 0} (𝓜 : Meaning M) (𝓝 : Meaning N) where
       total-margins 𝓜 (c .first .machines) (λ i. price c q (c .first .place i))
       +ℤ total-margins 𝓝 (c .second .machines) (λ i. price c q (c .second .place i))
       +ℤ total (bus-worth c q) (rows (c .buses))
+      -ℤ c .tolerance *ℤ total (price-size c q) (rows (c .buses))
       -ℤ total (kept-charge c q) (rows (c .branches))

@@ -34,3 +34,23 @@ pub record Weighed (b from to μ : ℤ) : Type 0 where
   pub from-price : Within 1000000 from
   pub to-price : Within 1000000 to
   pub congestion : Within 1000000 μ
+
+-- an angle price, and the limits of an angle difference
+pub record Stretched (ν low high : ℤ) : Type 0 where
+  pub price : Within 100000000 ν
+  pub low-limit : Within 6400000 low
+  pub high-limit : Within 6400000 high
+
+-- a weight, a shift, a congestion price, a rating, and what the angle price charges
+pub record Charged (k s μ F h : ℤ) : Type 0 where
+  pub weight : Within 10000000000 k
+  pub shift : Within 1600000 s
+  pub congestion : Within 1000000 μ
+  pub rating : Within 100000000 F
+  pub angle : Within 640000000000000 h
+
+-- a bus price, a demand and a residue
+pub record Worth (l d ρ : ℤ) : Type 0 where
+  pub price : Within 1000000 l
+  pub demand : Within 100000000 d
+  pub residue : Within 1000000000 ρ

@@ -4,6 +4,7 @@ pub mod balance;
 pub mod branch;
 pub mod bus;
 pub mod case;
+mod charge;
 pub mod dispatch;
 pub mod prices;
 pub mod refusal;

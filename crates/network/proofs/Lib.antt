@@ -9,3 +9,5 @@ pub mod Counted
 pub mod Nodal
 pub mod Whole
 pub mod Kept
+pub mod Limits
+pub mod PriceLists

@@ -1,11 +1,11 @@
 -- The quantities of the floor at a price list whose numbers outside their ranges count as 0, so that no sum overflows; a list that has one
 -- is refused before its floor is taken.
-use mathlib.Core.Bool.{Bool}
+use mathlib.Core.Bool.{Bool, false, not, _&&_, _||_}
 use Prim.Native.Nat.{ℕ}
 use lib.Dec.{eqb, ltb}
-use lib.IntN.{ℤ, pos, negℤ, _+ℤ_, _-ℤ_, _*ℤ_}
+use lib.IntN.{ℤ, pos, negsuc, negℤ, _+ℤ_, _-ℤ_, _*ℤ_}
 use denote.Ref.{now}
-use Rattle.measure.specs.Range.{kept, ∣_∣}
+use Rattle.measure.specs.Range.{between, kept, ∣_∣}
 use Rattle.measure.specs.Rows.{Row, rows, total, only}
 use Rattle.machine.specs.Meaning.{Meaning}
 use Rattle.machine.specs.Group.{total-margins}
@@ -59,6 +59,33 @@ module _ {M N : Type 0} (c : Case M N) (q : Prices) where
   -- the size of a bus's price
   abbrev pub price-size : Row Bus → ℤ
   price-size b = ∣ price c q (b .row) ∣
+
+-- ---- the limits as tests
+-- a price outside its range
+abbrev pub bus-price-beyond : Prices → ℕ → Bool
+bus-price-beyond q i = not (between (negℤ (pos 1000000)) (pos 1000000) (q .bus i))
+
+abbrev pub branch-price-beyond : Prices → ℕ → Bool
+branch-price-beyond q i =
+    not (between (negℤ (pos 1000000)) (pos 1000000) (q .congestion i))
+    || not (between (negℤ (pos 100000000)) (pos 100000000) (q .angle i))
+
+abbrev pub is-zero : ℤ → Bool
+is-zero (pos n) = eqb n 0
+is-zero (negsuc n) = false
+
+-- a congestion price on a branch in service without a rating
+abbrev pub unrated : Prices → Row Branch → Bool
+unrated q r = r .item .service && is-zero (r .item .rating .0) && not (is-zero (q .congestion (r .row)))
+
+module _ {M N : Type 0} (c : Case M N) (q : Prices) where
+  -- a branch in service whose weight is too large
+  abbrev pub overweight : Row Branch → Bool
+  overweight r = r .item .service && not (between (negℤ (pos 10000000000)) (pos 10000000000) (weight c q r))
+
+  -- a residue that is too large
+  abbrev pub residue-beyond : ℕ → Bool
+  residue-beyond i = not (between (negℤ (pos 1000000000)) (pos 1000000000) (residue c q i))
 
 module _ {M N : Type 0} (𝓜 : Meaning M) (𝓝 : Meaning N) where
   unfoldable pub kept-floor : Case M N → Prices → ℤ

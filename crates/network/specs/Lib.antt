@@ -7,3 +7,4 @@ pub mod Nodal
 pub mod Theorems
 pub mod Refusals
 pub mod Kept
+pub mod Floored

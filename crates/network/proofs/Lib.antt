@@ -11,3 +11,4 @@ pub mod Whole
 pub mod Kept
 pub mod Limits
 pub mod PriceLists
+pub mod Exact

@@ -73,7 +73,7 @@ stander [] i l = absurd (omega arith)
 stander (x ∷ xs) zero l = (x, refl)
 stander (x ∷ xs) (suc i) l = stander xs i (omega arith)
 
-row-below : {X : Type 0} (xs : List X) (r : Row X) → In r (rows xs) → r .row < length xs
+pub row-below : {X : Type 0} (xs : List X) (r : Row X) → In r (rows xs) → r .row < length xs
 row-below xs r k = let s = row-stands 0 xs r k in let e = s .1 in let l = s .2 in omega arith
 
 -- ---- each test tells its limit

@@ -54,3 +54,12 @@ pub record Worth (l d ρ : ℤ) : Type 0 where
   pub price : Within 1000000 l
   pub demand : Within 100000000 d
   pub residue : Within 1000000000 ρ
+
+-- the margins of two groups, what the buses add, a tolerance, the sizes of the bus prices, and what the branches are charged
+pub record Summed (first second buses : ℤ) (e : ℕ) (sizes charges : ℤ) : Type 0 where
+  pub first-range : Within 255000000000000000 first
+  pub second-range : Within 255000000000000000 second
+  pub buses-range : Within 841500000000000000 buses
+  pub tolerance : e ≤ 4294967295
+  pub sizes-range : Within 255000000 sizes
+  pub charges-range : Within 4268700000000000000 charges

@@ -6,6 +6,7 @@ pub mod bus;
 pub mod case;
 mod charge;
 pub mod dispatch;
+pub mod floor;
 mod lawful;
 pub mod prices;
 pub mod refusal;

@@ -13,3 +13,7 @@ pub mod Used
 pub mod Verdicts
 pub mod Findings
 pub mod Pinned
+pub mod Kept
+pub mod Limits
+pub mod PriceLists
+pub mod Exact

@@ -8,4 +8,5 @@ pub mod Theorems
 pub mod Refusals
 pub mod Judged
 pub mod Judging
+pub mod Kept
 pub mod Floored

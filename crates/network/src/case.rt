@@ -56,3 +56,14 @@ pub(crate) fn rows_used<T>(table: &[T], count: u8) -> u8
         count
     }
 }
+
+// The rows that the case has of a table.
+pub(crate) fn first_rows<T>(table: &[T], count: u8) -> &[T]
+    ensures { λ r. ⌜ now r ≡ take count (now (table .entry)) ⌝ }
+{
+    if table.len() < count as usize {
+        table
+    } else {
+        &table[0..count as usize]
+    }
+}

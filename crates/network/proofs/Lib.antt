@@ -14,6 +14,6 @@ pub mod Verdicts
 pub mod Findings
 pub mod Pinned
 pub mod Kept
-pub mod Limits
+pub mod RowLimits
 pub mod PriceLists
 pub mod Exact

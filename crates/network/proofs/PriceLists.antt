@@ -26,7 +26,7 @@ use Rattle.network.specs.Model.{Case}
 use Rattle.network.specs.Floor.{Prices, price, weight, pull, residue, Lawful-list}
 use Rattle.network.specs.Kept.{kept-price, kept-angle-price, kept-prices, bus-price-beyond, branch-price-beyond, is-zero, unrated, overweight, residue-beyond}
 use Rattle.network.specs.Floored.{Bus-prices-kept, Branch-prices-kept, None-unrated, Weights-kept, Bus-price-beyond, Branch-price-beyond, Out-of-range-at, Unrated-row, Weight-beyond, Residue-beyond, Unrated-at, Weight-at, Residue-at, Refused}
-use Rattle.network.proofs.Limits.{lowest-as, none-broken}
+use Rattle.network.proofs.RowLimits.{lowest-as, none-broken}
 
 -- ---- tests
 -- the test of 64 bits

@@ -18,7 +18,7 @@ use Rattle.network.specs.Floor.{Prices, price, weight, pull, residue, angle-ch
 -- the price list that three columns give
 abbrev pub prices-of : {C : Type 0} → (C → ℕ → ℤ) → view.Prices C → Prices
 prices-of value q =
-    record { bus = value (now (q .bus)); congestion = value (now (q .congestion)); angle = value (now (q .angle)) }
+    record { bus = value (q .bus); congestion = value (q .congestion); angle = value (q .angle) }
 
 -- a price, an angle price, a weight or a residue, or 0 outside its range
 abbrev pub kept-price : ℤ → ℤ

@@ -62,10 +62,10 @@ fn worth(price: i64, demand: i64, residue: i64) -> i64
     price * demand - ANGLE_LIMIT * size(residue)
 }
 
-impl<'a, M, N, C: Column> PricedCase<'a, M, N, C> {
+impl<'a, 'q, M, N, C: Column> PricedCase<'a, 'q, M, N, C> {
     // What the branch in that row is charged.
     fn charge(&self, row: usize, branch: &Branch) -> i64
-        ensures { λ r. ⌜ r ≡ kept-charge (case-of (now (self .entry) .case)) (kept-prices (prices-of (C·Column .value) (now (self .entry) .prices))) (record { item = now (branch .entry); row = row }) ⌝ }
+        ensures { λ r. ⌜ r ≡ kept-charge (case-of (now (self .entry) .case)) (kept-prices (prices-of (C·Column .value) (now (now (self .entry) .prices)))) (record { item = now (branch .entry); row = row }) ⌝ }
     {
         let weight = keep(-WEIGHT_LIMIT, WEIGHT_LIMIT, self.weight(row, branch));
         let angle = stretched(self.angle_price_at(row), branch.angmin.0, branch.angmax.0);
@@ -83,7 +83,7 @@ impl<'a, M, N, C: Column> PricedCase<'a, M, N, C> {
 
     // What the bus in that row adds to the floor.
     fn bus_worth(&self, row: usize, bus: &Bus) -> i64
-        ensures { λ r. ⌜ r ≡ bus-worth (case-of (now (self .entry) .case)) (kept-prices (prices-of (C·Column .value) (now (self .entry) .prices))) (record { item = now (bus .entry); row = row }) ⌝ }
+        ensures { λ r. ⌜ r ≡ bus-worth (case-of (now (self .entry) .case)) (kept-prices (prices-of (C·Column .value) (now (now (self .entry) .prices)))) (record { item = now (bus .entry); row = row }) ⌝ }
     {
         let residue = keep(-RESIDUE_LIMIT, RESIDUE_LIMIT, self.residue(row));
         worth(self.price_at(row), bus.demand.0, only_if(0 < row, residue))
@@ -92,7 +92,7 @@ impl<'a, M, N, C: Column> PricedCase<'a, M, N, C> {
     // What all branches are charged.
     pub(crate) fn charges(&self) -> i64
         ensures small { λ r. ⌜ Within 4268700000000000000 r ⌝ }
-        ensures exact { λ r. ⌜ r ≡ total (kept-charge (case-of (now (self .entry) .case)) (kept-prices (prices-of (C·Column .value) (now (self .entry) .prices)))) (rows (take (now (self .entry) .case .nl) (now (now (self .entry) .case .branches)))) ⌝ }
+        ensures exact { λ r. ⌜ r ≡ total (kept-charge (case-of (now (self .entry) .case)) (kept-prices (prices-of (C·Column .value) (now (now (self .entry) .prices))))) (rows (take (now (self .entry) .case .nl) (now (now (self .entry) .case .branches)))) ⌝ }
     {
         sum(&Charges { priced: *self }, self.case.nl)
     }
@@ -100,7 +100,7 @@ impl<'a, M, N, C: Column> PricedCase<'a, M, N, C> {
     // What all buses add to the floor.
     pub(crate) fn bus_worths(&self) -> i64
         ensures small { λ r. ⌜ Within 841500000000000000 r ⌝ }
-        ensures exact { λ r. ⌜ r ≡ total (bus-worth (case-of (now (self .entry) .case)) (kept-prices (prices-of (C·Column .value) (now (self .entry) .prices)))) (rows (take (now (self .entry) .case .nb) (now (now (self .entry) .case .buses)))) ⌝ }
+        ensures exact { λ r. ⌜ r ≡ total (bus-worth (case-of (now (self .entry) .case)) (kept-prices (prices-of (C·Column .value) (now (now (self .entry) .prices))))) (rows (take (now (self .entry) .case .nb) (now (now (self .entry) .case .buses)))) ⌝ }
     {
         sum(&BusWorths { priced: *self }, self.case.nb)
     }
@@ -108,7 +108,7 @@ impl<'a, M, N, C: Column> PricedCase<'a, M, N, C> {
     // The sum of the sizes of the bus prices.
     pub(crate) fn price_sizes(&self) -> i64
         ensures small { λ r. ⌜ Within 255000000 r ⌝ }
-        ensures exact { λ r. ⌜ r ≡ total (price-size (case-of (now (self .entry) .case)) (kept-prices (prices-of (C·Column .value) (now (self .entry) .prices)))) (rows (take (now (self .entry) .case .nb) (now (now (self .entry) .case .buses)))) ⌝ }
+        ensures exact { λ r. ⌜ r ≡ total (price-size (case-of (now (self .entry) .case)) (kept-prices (prices-of (C·Column .value) (now (now (self .entry) .prices))))) (rows (take (now (self .entry) .case .nb) (now (now (self .entry) .case .buses)))) ⌝ }
     {
         sum(&PriceSizes { priced: *self }, self.case.nb)
     }
@@ -116,12 +116,12 @@ impl<'a, M, N, C: Column> PricedCase<'a, M, N, C> {
 
 // What each branch is charged.
 #[derive_where(Clone, Copy)]
-struct Charges<'a, M, N, C> {
-    priced: PricedCase<'a, M, N, C>,
+struct Charges<'a, 'q, M, N, C> {
+    priced: PricedCase<'a, 'q, M, N, C>,
 }
 
-impl<'a, M, N, C: Column> Column for Charges<'a, M, N, C> as ChargesColumn {
-    ghost value = { λ s. row-value (kept-charge (case-of (s .priced .case)) (kept-prices (prices-of (C·Column .value) (s .priced .prices)))) (now (s .priced .case .branches)) };
+impl<'a, 'q, M, N, C: Column> Column for Charges<'a, 'q, M, N, C> as ChargesColumn {
+    ghost value = { λ s. row-value (kept-charge (case-of (s .priced .case)) (kept-prices (prices-of (C·Column .value) (now (s .priced .prices))))) (now (s .priced .case .branches)) };
 
     fn at(&self, row: usize) -> i64 {
         if row < self.priced.case.branches.len() {
@@ -134,12 +134,12 @@ impl<'a, M, N, C: Column> Column for Charges<'a, M, N, C> as ChargesColumn {
 
 // What each bus adds to the floor.
 #[derive_where(Clone, Copy)]
-struct BusWorths<'a, M, N, C> {
-    priced: PricedCase<'a, M, N, C>,
+struct BusWorths<'a, 'q, M, N, C> {
+    priced: PricedCase<'a, 'q, M, N, C>,
 }
 
-impl<'a, M, N, C: Column> Column for BusWorths<'a, M, N, C> as BusWorthsColumn {
-    ghost value = { λ s. row-value (bus-worth (case-of (s .priced .case)) (kept-prices (prices-of (C·Column .value) (s .priced .prices)))) (now (s .priced .case .buses)) };
+impl<'a, 'q, M, N, C: Column> Column for BusWorths<'a, 'q, M, N, C> as BusWorthsColumn {
+    ghost value = { λ s. row-value (bus-worth (case-of (s .priced .case)) (kept-prices (prices-of (C·Column .value) (now (s .priced .prices))))) (now (s .priced .case .buses)) };
 
     fn at(&self, row: usize) -> i64 {
         if row < self.priced.case.buses.len() {
@@ -152,12 +152,12 @@ impl<'a, M, N, C: Column> Column for BusWorths<'a, M, N, C> as BusWorthsColumn {
 
 // The size of each bus's price.
 #[derive_where(Clone, Copy)]
-struct PriceSizes<'a, M, N, C> {
-    priced: PricedCase<'a, M, N, C>,
+struct PriceSizes<'a, 'q, M, N, C> {
+    priced: PricedCase<'a, 'q, M, N, C>,
 }
 
-impl<'a, M, N, C: Column> Column for PriceSizes<'a, M, N, C> as PriceSizesColumn {
-    ghost value = { λ s. row-value (price-size (case-of (s .priced .case)) (kept-prices (prices-of (C·Column .value) (s .priced .prices)))) (now (s .priced .case .buses)) };
+impl<'a, 'q, M, N, C: Column> Column for PriceSizes<'a, 'q, M, N, C> as PriceSizesColumn {
+    ghost value = { λ s. row-value (price-size (case-of (s .priced .case)) (kept-prices (prices-of (C·Column .value) (now (s .priced .prices))))) (now (s .priced .case .buses)) };
 
     fn at(&self, row: usize) -> i64 {
         if row < self.priced.case.buses.len() {

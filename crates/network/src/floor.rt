@@ -16,7 +16,6 @@ use crate::case::Machines;
 use crate::case::MachinesClone;
 use crate::case::first_rows;
 use crate::prices::Prices;
-use crate::prices::PricesClone;
 use crate::refusal::Refusal;
 use crate::residue::PricedCase;
 use crate::residue::PricedCaseClone;
@@ -27,13 +26,20 @@ use measure::column::Column;
 
 // The price at each machine's bus.
 #[derive_where(Clone, Copy)]
-struct MachinePrices<'a, M, N, C, K> {
-    priced: PricedCase<'a, M, N, C>,
+struct MachinePrices<'a, 'q, M, N, C, K> {
+    priced: PricedCase<'a, 'q, M, N, C>,
     machines: Machines<'a, K>,
 }
 
-impl<'a, M, N, C: Column, K> Column for MachinePrices<'a, M, N, C, K> as MachinePricesColumn {
-    ghost value = { λ s i. price (case-of (s .priced .case)) (kept-prices (prices-of (C·Column .value) (s .priced .prices))) (getD (now (s .machines .places)) i 0) };
+impl<'a, 'q, M, N, C: Column, K> Column for MachinePrices<
+    'a,
+    'q,
+    M,
+    N,
+    C,
+    K,
+> as MachinePricesColumn {
+    ghost value = { λ s i. price (case-of (s .priced .case)) (kept-prices (prices-of (C·Column .value) (now (s .priced .prices)))) (getD (now (s .machines .places)) i 0) };
 
     fn at(&self, row: usize) -> i64 {
         self.priced.price_at(self.machines.place(row) as usize)
@@ -48,11 +54,11 @@ fn summed(first: i64, second: i64, buses: i64, tolerance: u32, sizes: i64, charg
     first + second + buses - tolerance as i64 * sizes - charges
 }
 
-impl<'a, M, N, C: Column> PricedCase<'a, M, N, C> {
+impl<'a, 'q, M, N, C: Column> PricedCase<'a, 'q, M, N, C> {
     // The sum of the margins of a group, each machine at the price of its bus.
     fn margins<K: Machine>(&self, machines: Machines<'a, K>) -> i64
         ensures small { λ r. ⌜ Within 255000000000000000 r ⌝ }
-        ensures exact { λ r. ⌜ r ≡ total-margins (K·Machine .meaning) (group-of (machines .entry) .machines) (λ i. price (case-of (now (self .entry) .case)) (kept-prices (prices-of (C·Column .value) (now (self .entry) .prices))) (group-of (machines .entry) .place i)) ⌝ }
+        ensures exact { λ r. ⌜ r ≡ total-margins (K·Machine .meaning) (group-of (machines .entry) .machines) (λ i. price (case-of (now (self .entry) .case)) (kept-prices (prices-of (C·Column .value) (now (now (self .entry) .prices)))) (group-of (machines .entry) .place i)) ⌝ }
     {
         let prices = MachinePrices {
             priced: *self,
@@ -62,10 +68,10 @@ impl<'a, M, N, C: Column> PricedCase<'a, M, N, C> {
     }
 }
 
-impl<'a, M: Machine, N: Machine, C: Column> PricedCase<'a, M, N, C> {
+impl<'a, 'q, M: Machine, N: Machine, C: Column> PricedCase<'a, 'q, M, N, C> {
     // The floor of the list.
     fn floor(&self) -> i64
-        ensures { λ r. ⌜ r ≡ kept-floor (M·Machine .meaning) (N·Machine .meaning) (case-of (now (self .entry) .case)) (kept-prices (prices-of (C·Column .value) (now (self .entry) .prices))) ⌝ }
+        ensures { λ r. ⌜ r ≡ kept-floor (M·Machine .meaning) (N·Machine .meaning) (case-of (now (self .entry) .case)) (kept-prices (prices-of (C·Column .value) (now (now (self .entry) .prices)))) ⌝ }
     {
         summed(
             self.margins(self.case.first),
@@ -80,12 +86,12 @@ impl<'a, M: Machine, N: Machine, C: Column> PricedCase<'a, M, N, C> {
 
 impl<'a, M: Machine, N: Machine> Case<'a, M, N> {
     // The floor of a price list, or why the list is refused.
-    pub fn floor<C: Column>(&self, prices: &Prices<'a, C>) -> Result<Grains, Refusal>
+    pub fn floor<C: Column>(&self, prices: &Prices<C>) -> Result<Grains, Refusal>
         ensures { λ r. ⌜ Floored (M·Machine .meaning) (N·Machine .meaning) (case-of (now (self .entry))) (prices-of (C·Column .value) (now (prices .entry))) r ⌝ }
     {
         let priced = PricedCase {
             case: *self,
-            prices: *prices,
+            prices: prices,
         };
         priced.check()?;
         Ok(Grains(priced.floor()))

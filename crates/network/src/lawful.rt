@@ -15,7 +15,6 @@ use crate::case::rows_used;
 use crate::charge::RESIDUE_LIMIT;
 use crate::charge::WEIGHT_LIMIT;
 use crate::prices::Prices;
-use crate::prices::PricesClone;
 use crate::refusal::Refusal;
 use crate::residue::ANGLE_PRICE_LIMIT;
 use crate::residue::PricedCase;
@@ -28,12 +27,12 @@ use measure::range::is_between;
 
 // The range of the bus prices.
 #[derive_where(Clone, Copy)]
-struct BusPrices<'a, C> {
-    prices: Prices<'a, C>,
+struct BusPrices<'q, C> {
+    prices: &'q Prices<C>,
 }
 
-impl<'a, C: Column> Limit for BusPrices<'a, C> as BusPricesLimit {
-    ghost broken = { λ s. bus-price-beyond (prices-of (C·Column .value) (s .prices)) };
+impl<'q, C: Column> Limit for BusPrices<'q, C> as BusPricesLimit {
+    ghost broken = { λ s. bus-price-beyond (prices-of (C·Column .value) (now (s .prices))) };
 
     fn is_broken(&self, row: usize) -> bool {
         !is_between(-Price::LIMIT, Price::LIMIT, self.prices.bus.at(row))
@@ -42,12 +41,12 @@ impl<'a, C: Column> Limit for BusPrices<'a, C> as BusPricesLimit {
 
 // The ranges of the congestion prices and of the angle prices.
 #[derive_where(Clone, Copy)]
-struct BranchPrices<'a, C> {
-    prices: Prices<'a, C>,
+struct BranchPrices<'q, C> {
+    prices: &'q Prices<C>,
 }
 
-impl<'a, C: Column> Limit for BranchPrices<'a, C> as BranchPricesLimit {
-    ghost broken = { λ s. branch-price-beyond (prices-of (C·Column .value) (s .prices)) };
+impl<'q, C: Column> Limit for BranchPrices<'q, C> as BranchPricesLimit {
+    ghost broken = { λ s. branch-price-beyond (prices-of (C·Column .value) (now (s .prices))) };
 
     fn is_broken(&self, row: usize) -> bool {
         let congestion = self.prices.congestion.at(row);
@@ -59,13 +58,13 @@ impl<'a, C: Column> Limit for BranchPrices<'a, C> as BranchPricesLimit {
 
 // A branch in service without a rating has no congestion price.
 #[derive_where(Clone, Copy)]
-struct Rated<'a, C> {
+struct Rated<'a, 'q, C> {
     branches: &'a [Branch],
-    prices: Prices<'a, C>,
+    prices: &'q Prices<C>,
 }
 
-impl<'a, C: Column> Limit for Rated<'a, C> as RatedLimit {
-    ghost broken = { λ s. row-test (unrated (prices-of (C·Column .value) (s .prices))) (now (s .branches)) };
+impl<'a, 'q, C: Column> Limit for Rated<'a, 'q, C> as RatedLimit {
+    ghost broken = { λ s. row-test (unrated (prices-of (C·Column .value) (now (s .prices)))) (now (s .branches)) };
 
     fn is_broken(&self, row: usize) -> bool {
         if row < self.branches.len() {
@@ -79,12 +78,12 @@ impl<'a, C: Column> Limit for Rated<'a, C> as RatedLimit {
 
 // The range of the weights of branches in service.
 #[derive_where(Clone, Copy)]
-struct Weights<'a, M, N, C> {
-    priced: PricedCase<'a, M, N, C>,
+struct Weights<'a, 'q, M, N, C> {
+    priced: PricedCase<'a, 'q, M, N, C>,
 }
 
-impl<'a, M, N, C: Column> Limit for Weights<'a, M, N, C> as WeightsLimit {
-    ghost broken = { λ s. row-test (overweight (case-of (s .priced .case)) (kept-prices (prices-of (C·Column .value) (s .priced .prices)))) (now (s .priced .case .branches)) };
+impl<'a, 'q, M, N, C: Column> Limit for Weights<'a, 'q, M, N, C> as WeightsLimit {
+    ghost broken = { λ s. row-test (overweight (case-of (s .priced .case)) (kept-prices (prices-of (C·Column .value) (now (s .priced .prices))))) (now (s .priced .case .branches)) };
 
     fn is_broken(&self, row: usize) -> bool {
         if row < self.priced.case.branches.len() {
@@ -99,22 +98,22 @@ impl<'a, M, N, C: Column> Limit for Weights<'a, M, N, C> as WeightsLimit {
 
 // The range of the residues.
 #[derive_where(Clone, Copy)]
-struct Residues<'a, M, N, C> {
-    priced: PricedCase<'a, M, N, C>,
+struct Residues<'a, 'q, M, N, C> {
+    priced: PricedCase<'a, 'q, M, N, C>,
 }
 
-impl<'a, M, N, C: Column> Limit for Residues<'a, M, N, C> as ResiduesLimit {
-    ghost broken = { λ s. residue-beyond (case-of (s .priced .case)) (kept-prices (prices-of (C·Column .value) (s .priced .prices))) };
+impl<'a, 'q, M, N, C: Column> Limit for Residues<'a, 'q, M, N, C> as ResiduesLimit {
+    ghost broken = { λ s. residue-beyond (case-of (s .priced .case)) (kept-prices (prices-of (C·Column .value) (now (s .priced .prices)))) };
 
     fn is_broken(&self, row: usize) -> bool {
         !is_between(-RESIDUE_LIMIT, RESIDUE_LIMIT, self.priced.residue(row))
     }
 }
 
-impl<'a, M, N, C: Column> PricedCase<'a, M, N, C> {
+impl<'a, 'q, M, N, C: Column> PricedCase<'a, 'q, M, N, C> {
     // The lowest row with a price outside its range, of the buses or else of the branches; or none.
     fn price_beyond(&self) -> Option<usize>
-        ensures { λ r. ⌜ Cases r (Bus-prices-kept (case-of (now (self .entry) .case)) (prices-of (C·Column .value) (now (self .entry) .prices)) × Branch-prices-kept (case-of (now (self .entry) .case)) (prices-of (C·Column .value) (now (self .entry) .prices))) (Out-of-range-at (case-of (now (self .entry) .case)) (prices-of (C·Column .value) (now (self .entry) .prices))) ⌝ }
+        ensures { λ r. ⌜ Cases r (Bus-prices-kept (case-of (now (self .entry) .case)) (prices-of (C·Column .value) (now (now (self .entry) .prices))) × Branch-prices-kept (case-of (now (self .entry) .case)) (prices-of (C·Column .value) (now (now (self .entry) .prices)))) (Out-of-range-at (case-of (now (self .entry) .case)) (prices-of (C·Column .value) (now (now (self .entry) .prices)))) ⌝ }
     {
         let buses = rows_used(self.case.buses, self.case.nb);
         let branches = rows_used(self.case.branches, self.case.nl);
@@ -127,7 +126,7 @@ impl<'a, M, N, C: Column> PricedCase<'a, M, N, C> {
 
     // The lowest branch row in service without a rating that has a congestion price, or none.
     fn unrated(&self) -> Option<usize>
-        ensures { λ r. ⌜ Lowest (Unrated-row (case-of (now (self .entry) .case)) (prices-of (C·Column .value) (now (self .entry) .prices))) r ⌝ }
+        ensures { λ r. ⌜ Lowest (Unrated-row (case-of (now (self .entry) .case)) (prices-of (C·Column .value) (now (now (self .entry) .prices)))) r ⌝ }
     {
         let rated = Rated {
             branches: self.case.branches,
@@ -138,14 +137,14 @@ impl<'a, M, N, C: Column> PricedCase<'a, M, N, C> {
 
     // The lowest branch row in service whose weight is too large, or none.
     fn overweight(&self) -> Option<usize>
-        ensures { λ r. ⌜ Lowest (Weight-beyond (case-of (now (self .entry) .case)) (kept-prices (prices-of (C·Column .value) (now (self .entry) .prices)))) r ⌝ }
+        ensures { λ r. ⌜ Lowest (Weight-beyond (case-of (now (self .entry) .case)) (kept-prices (prices-of (C·Column .value) (now (now (self .entry) .prices))))) r ⌝ }
     {
         first_broken(&Weights { priced: *self }, self.case.nl)
     }
 
     // The lowest bus row whose residue is too large, or none.
     fn residue_beyond(&self) -> Option<usize>
-        ensures { λ r. ⌜ Lowest (Residue-beyond (case-of (now (self .entry) .case)) (kept-prices (prices-of (C·Column .value) (now (self .entry) .prices)))) r ⌝ }
+        ensures { λ r. ⌜ Lowest (Residue-beyond (case-of (now (self .entry) .case)) (kept-prices (prices-of (C·Column .value) (now (now (self .entry) .prices))))) r ⌝ }
     {
         let buses = rows_used(self.case.buses, self.case.nb);
         first_broken(&Residues { priced: *self }, buses)
@@ -153,7 +152,7 @@ impl<'a, M, N, C: Column> PricedCase<'a, M, N, C> {
 
     // Whether the list is lawful; if not, the first refusal.
     pub(crate) fn check(&self) -> Result<(), Refusal>
-        ensures { λ r. ⌜ Checked (case-of (now (self .entry) .case)) (prices-of (C·Column .value) (now (self .entry) .prices)) r ⌝ }
+        ensures { λ r. ⌜ Checked (case-of (now (self .entry) .case)) (prices-of (C·Column .value) (now (now (self .entry) .prices))) r ⌝ }
     {
         if let Some(row) = self.price_beyond() {
             return Err(Refusal::OutOfRange(row));

@@ -12,7 +12,6 @@ use crate::case::Case;
 use crate::case::CaseClone;
 use crate::case::rows_used;
 use crate::prices::Prices;
-use crate::prices::PricesClone;
 use measure::column::Column;
 use measure::column::sum;
 use measure::price::Price;
@@ -24,9 +23,9 @@ pub const ANGLE_PRICE_LIMIT: i64 = 100_000_000;
 
 // A case and a price list. Prices outside their ranges count as 0.
 #[derive_where(Clone, Copy)]
-pub(crate) struct PricedCase<'a, M, N, C> {
+pub(crate) struct PricedCase<'a, 'q, M, N, C> {
     pub(crate) case: Case<'a, M, N>,
-    pub(crate) prices: Prices<'a, C>,
+    pub(crate) prices: &'q Prices<C>,
 }
 
 // A susceptance times the price at the from end, less that at the to end, with the congestion price.
@@ -37,10 +36,10 @@ fn weighed(susceptance: i64, from: i64, to: i64, congestion: i64) -> i64
     susceptance * (from - to + congestion)
 }
 
-impl<'a, M, N, C: Column> PricedCase<'a, M, N, C> {
+impl<'a, 'q, M, N, C: Column> PricedCase<'a, 'q, M, N, C> {
     // The price at the bus in that row; 0 at a row that the case lacks.
     pub(crate) fn price_at(&self, row: usize) -> i64
-        ensures { λ r. ⌜ r ≡ price (case-of (now (self .entry) .case)) (kept-prices (prices-of (C·Column .value) (now (self .entry) .prices))) row ⌝ }
+        ensures { λ r. ⌜ r ≡ price (case-of (now (self .entry) .case)) (kept-prices (prices-of (C·Column .value) (now (now (self .entry) .prices)))) row ⌝ }
     {
         let price = keep(-Price::LIMIT, Price::LIMIT, self.prices.bus.at(row));
         only_if(
@@ -51,14 +50,14 @@ impl<'a, M, N, C: Column> PricedCase<'a, M, N, C> {
 
     // The congestion price of the branch in that row.
     pub(crate) fn congestion_at(&self, row: usize) -> i64
-        ensures { λ r. ⌜ r ≡ kept-price (C·Column .value (now (now (self .entry) .prices .congestion)) row) ⌝ }
+        ensures { λ r. ⌜ r ≡ kept-price (C·Column .value (now (now (self .entry) .prices) .congestion) row) ⌝ }
     {
         keep(-Price::LIMIT, Price::LIMIT, self.prices.congestion.at(row))
     }
 
     // The angle price of the branch in that row.
     pub(crate) fn angle_price_at(&self, row: usize) -> i64
-        ensures { λ r. ⌜ r ≡ kept-angle-price (C·Column .value (now (now (self .entry) .prices .angle)) row) ⌝ }
+        ensures { λ r. ⌜ r ≡ kept-angle-price (C·Column .value (now (now (self .entry) .prices) .angle) row) ⌝ }
     {
         keep(
             -ANGLE_PRICE_LIMIT,
@@ -69,7 +68,7 @@ impl<'a, M, N, C: Column> PricedCase<'a, M, N, C> {
 
     // The weight of the branch in that row.
     pub(crate) fn weight(&self, row: usize, branch: &Branch) -> i64
-        ensures { λ r. ⌜ r ≡ weight (case-of (now (self .entry) .case)) (kept-prices (prices-of (C·Column .value) (now (self .entry) .prices))) (record { item = now (branch .entry); row = row }) ⌝ }
+        ensures { λ r. ⌜ r ≡ weight (case-of (now (self .entry) .case)) (kept-prices (prices-of (C·Column .value) (now (now (self .entry) .prices)))) (record { item = now (branch .entry); row = row }) ⌝ }
     {
         weighed(
             branch.susceptance,
@@ -81,7 +80,7 @@ impl<'a, M, N, C: Column> PricedCase<'a, M, N, C> {
 
     // Its weight and its angle price, where it is in service.
     fn pull(&self, row: usize, branch: &Branch) -> i64
-        ensures { λ r. ⌜ r ≡ pull (case-of (now (self .entry) .case)) (kept-prices (prices-of (C·Column .value) (now (self .entry) .prices))) (record { item = now (branch .entry); row = row }) ⌝ }
+        ensures { λ r. ⌜ r ≡ pull (case-of (now (self .entry) .case)) (kept-prices (prices-of (C·Column .value) (now (now (self .entry) .prices)))) (record { item = now (branch .entry); row = row }) ⌝ }
     {
         only_if(
             branch.service,
@@ -91,7 +90,7 @@ impl<'a, M, N, C: Column> PricedCase<'a, M, N, C> {
 
     // The residue of the bus in that row.
     pub(crate) fn residue(&self, bus: usize) -> i64
-        ensures { λ r. ⌜ r ≡ residue (case-of (now (self .entry) .case)) (kept-prices (prices-of (C·Column .value) (now (self .entry) .prices))) bus ⌝ }
+        ensures { λ r. ⌜ r ≡ residue (case-of (now (self .entry) .case)) (kept-prices (prices-of (C·Column .value) (now (now (self .entry) .prices)))) bus ⌝ }
     {
         sum(&Shares { priced: *self, bus }, self.case.nl)
     }
@@ -99,15 +98,15 @@ impl<'a, M, N, C: Column> PricedCase<'a, M, N, C> {
 
 // What each branch adds to the residue of one bus.
 #[derive_where(Clone, Copy)]
-struct Shares<'a, M, N, C> {
-    priced: PricedCase<'a, M, N, C>,
+struct Shares<'a, 'q, M, N, C> {
+    priced: PricedCase<'a, 'q, M, N, C>,
     bus: usize,
 }
 
-impl<'a, M, N, C: Column> Shares<'a, M, N, C> {
+impl<'a, 'q, M, N, C: Column> Shares<'a, 'q, M, N, C> {
     // What the branch in that row adds.
     fn of(&self, row: usize, branch: &Branch) -> i64
-        ensures { λ r. ⌜ r ≡ share (case-of (now (self .entry) .priced .case)) (kept-prices (prices-of (C·Column .value) (now (self .entry) .priced .prices))) (now (self .entry) .bus) (record { item = now (branch .entry); row = row }) ⌝ }
+        ensures { λ r. ⌜ r ≡ share (case-of (now (self .entry) .priced .case)) (kept-prices (prices-of (C·Column .value) (now (now (self .entry) .priced .prices)))) (now (self .entry) .bus) (record { item = now (branch .entry); row = row }) ⌝ }
     {
         let pull = self.priced.pull(row, branch);
         let leaving = only_if(branch.ends.from as usize == self.bus, pull);
@@ -116,8 +115,8 @@ impl<'a, M, N, C: Column> Shares<'a, M, N, C> {
     }
 }
 
-impl<'a, M, N, C: Column> Column for Shares<'a, M, N, C> as SharesColumn {
-    ghost value = { λ s. row-value (share (case-of (s .priced .case)) (kept-prices (prices-of (C·Column .value) (s .priced .prices))) (s .bus)) (now (s .priced .case .branches)) };
+impl<'a, 'q, M, N, C: Column> Column for Shares<'a, 'q, M, N, C> as SharesColumn {
+    ghost value = { λ s. row-value (share (case-of (s .priced .case)) (kept-prices (prices-of (C·Column .value) (now (s .priced .prices)))) (s .bus)) (now (s .priced .case .branches)) };
 
     fn at(&self, row: usize) -> i64 {
         if row < self.priced.case.branches.len() {

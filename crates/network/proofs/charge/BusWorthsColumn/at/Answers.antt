@@ -10,7 +10,7 @@ use Rattle.network.proofs.charge.BusWorthsColumn.at.Needs as need
 pub returns-then-row-self : need.returns-then-row-self
 returns-then-row-self g c =
     let s = c .args .self .now in
-    let f = bus-worth (case-of (s .priced .case)) (kept-prices (prices-of (g .C·Column .value) (s .priced .prices))) in
+    let f = bus-worth (case-of (s .priced .case)) (kept-prices (prices-of (g .C·Column .value) (s .priced .prices .now))) in
     row-is (pos 0) f (s .priced .case .buses .now) (c .args .row) _ (c .if-row-self .taken)
     (λ x k. passed (c .bus-worth .result) (c .bus-worth .ok) ∙ c .bus-worth .ensures ∙ ap (λ (b : Bus). f (record { item = b; row = c .args .row })) (sym (stands-getD (s .priced .case .buses .now) (c .args .row) x _ k)))
 

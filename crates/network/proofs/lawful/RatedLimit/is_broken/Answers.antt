@@ -13,7 +13,7 @@ use Rattle.network.proofs.lawful.RatedLimit.is_broken.Needs as need
 pub returns-then-row-self : need.returns-then-row-self
 returns-then-row-self g c =
     let s = c .args .self .now in
-    let f = unrated (prices-of (g .C·Column .value) (s .prices)) in
+    let f = unrated (prices-of (g .C·Column .value) (s .prices .now)) in
     row-is false f (s .branches .now) (c .args .row) _ (c .if-row-self .taken)
     (λ x k.
     let b = sym (stands-getD (s .branches .now) (c .args .row) x _ k) in

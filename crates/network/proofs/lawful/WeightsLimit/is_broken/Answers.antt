@@ -17,7 +17,7 @@ light z = between (negℤ (pos 10000000000)) (pos 10000000000) z
 pub returns-then-row-self : need.returns-then-row-self
 returns-then-row-self g c =
     let s = c .args .self .now in
-    let q = kept-prices (prices-of (g .C·Column .value) (s .priced .prices)) in
+    let q = kept-prices (prices-of (g .C·Column .value) (s .priced .prices .now)) in
     row-is false (overweight (case-of (s .priced .case)) q) (s .priced .case .branches .now) (c .args .row) _ (c .if-row-self .taken)
     (λ x k.
     let b = sym (stands-getD (s .priced .case .branches .now) (c .args .row) x _ k) in

@@ -19,7 +19,7 @@ worth-requires g c κs =
     let d = toZ-ofZ w64 (b .demand .0) (fits 100000000 _ (lit< tt) (b .ok .1)) in
     let k = passed (c .keep-residue .result) (c .keep-residue .ok) ∙ c .keep-residue .ensures ∙ ap kept-residue (passed (c .residue .result) (c .residue .ok) ∙ c .residue .ensures) in
     let o = passed (c .only-if .result) (c .only-if .ok) ∙ c .only-if .ensures ∙ ap (only (ltb 0 (c .args .row))) k in
-    rw (p, d, o) (worth-by (case-of (s .case)) (prices-of (g .C·Column .value) (s .prices)) (record { item = b; row = c .args .row }))
+    rw (p, d, o) (worth-by (case-of (s .case)) (prices-of (g .C·Column .value) (s .prices .now)) (record { item = b; row = c .args .row }))
 
 pub returns : need.returns
 unfolding bus-worth

@@ -30,7 +30,7 @@ charged-requires g c κs =
     let h = passed (c .stretched-angle .result) (c .stretched-angle .ok) ∙ c .stretched-angle .ensures ∙ (λ i. stretch (n i) (l i) (u i)) in
     let m = passed (c .congestion-at .result) (c .congestion-at .ok) ∙ c .congestion-at .ensures in
     rw (k, toZ-ofZ w64 (b .shift .0) (shift-fits b), m, toZ-ofZ w64 (b .rating .0) (rating-fits b), h)
-    (charged-by (case-of (s .case)) (prices-of (g .C·Column .value) (s .prices)) (record { item = b; row = c .args .row }))
+    (charged-by (case-of (s .case)) (prices-of (g .C·Column .value) (s .prices .now)) (record { item = b; row = c .args .row }))
 
 pub returns : need.returns
 unfolding kept-charge angle-charge

@@ -15,13 +15,13 @@ use Rattle.network.proofs.residue.PricedCase.charges.Needs as need
 pub sum-requires : need.sum-requires
 sum-requires g c κs =
     let s = c .args .self .now in
-    let q = prices-of (g .C·Column .value) (s .prices) in
+    let q = prices-of (g .C·Column .value) (s .prices .now) in
     rows-small 16740000000000000 (kept-charge (case-of (s .case)) (kept-prices q)) (s .case .branches .now) (s .case .nl) (lit≤ tt) (charge-within (case-of (s .case)) q)
 
 pub returns : need.returns
 returns g c =
     let s = c .args .self .now in
-    let q = prices-of (g .C·Column .value) (s .prices) in
+    let q = prices-of (g .C·Column .value) (s .prices .now) in
     let f = kept-charge (case-of (s .case)) (kept-prices q) in
     let e = passed (c .sum .result) (c .sum .ok) ∙ c .sum .ensures ∙ sum-rows f (s .case .branches .now) (s .case .nl) in
     let h : Fits w8 (c .args .self .now .case .nl) = search needs in

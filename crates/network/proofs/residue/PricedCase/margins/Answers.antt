@@ -26,14 +26,14 @@ total-margin-requires g c κs =
     let l = ap length (c .first-rows .ensures) in
     record {
       few = omega arith;
-      priced = λ i k. price-within (case-of (s .case)) (prices-of (g .C·Column .value) (s .prices)) (getD (m .places .now) i 0);
+      priced = λ i k. price-within (case-of (s .case)) (prices-of (g .C·Column .value) (s .prices .now)) (getD (m .places .now) i 0);
     }
 
 pub returns : need.returns
 returns g c =
     let s = c .args .self .now in
     let m = c .args .machines in
-    let q = prices-of (g .C·Column .value) (s .prices) in
+    let q = prices-of (g .C·Column .value) (s .prices .now) in
     let L : ℕ → ℤ = λ i. price (case-of (s .case)) (kept-prices q) (getD (m .places .now) i 0) in
     let ms = take (m .count) (m .rows .now) in
     let h : Fits w8 (c .args .machines .count) = search needs in

@@ -1,6 +1,6 @@
 use Rattle.network.specs.View.{case-of}
 use Rattle.network.specs.Kept.{prices-of, kept-prices, overweight}
-use Rattle.network.proofs.Limits.{lowest-row}
+use Rattle.network.proofs.RowLimits.{lowest-row}
 use Rattle.network.proofs.PriceLists.{Heavy-branch, overweight-true, true-overweight}
 use Rattle.network.proofs.residue.PricedCase.overweight.Needs as need
 
@@ -8,5 +8,5 @@ pub returns : need.returns
 returns g c =
     let s = c .args .self .now in
     let k = case-of (s .case) in
-    let q = kept-prices (prices-of (g .C·Column .value) (s .prices)) in
+    let q = kept-prices (prices-of (g .C·Column .value) (s .prices .now)) in
     lowest-row (overweight k q) (Heavy-branch k q) (overweight-true k q) (true-overweight k q) (s .case .branches .now) (s .case .nl) (c .first-broken .result) (c .first-broken .ensures)

@@ -15,13 +15,13 @@ use Rattle.network.proofs.residue.PricedCase.price_sizes.Needs as need
 pub sum-requires : need.sum-requires
 sum-requires g c κs =
     let s = c .args .self .now in
-    let q = prices-of (g .C·Column .value) (s .prices) in
+    let q = prices-of (g .C·Column .value) (s .prices .now) in
     rows-small 1000000 (price-size (case-of (s .case)) (kept-prices q)) (s .case .buses .now) (s .case .nb) (lit≤ tt) (price-size-within (case-of (s .case)) q)
 
 pub returns : need.returns
 returns g c =
     let s = c .args .self .now in
-    let q = prices-of (g .C·Column .value) (s .prices) in
+    let q = prices-of (g .C·Column .value) (s .prices .now) in
     let f = price-size (case-of (s .case)) (kept-prices q) in
     let e = passed (c .sum .result) (c .sum .ok) ∙ c .sum .ensures ∙ sum-rows f (s .case .buses .now) (s .case .nb) in
     let h : Fits w8 (c .args .self .now .case .nb) = search needs in

@@ -17,7 +17,7 @@ add-weight g c =
     let s = c .args .self .now in
     let w = passed (c .weight .result) (c .weight .ok) ∙ c .weight .ensures in
     let a = passed (c .angle-price-at .result) (c .angle-price-at .ok) ∙ c .angle-price-at .ensures in
-    subst (SFits w64) (sym (λ i. w i +ℤ a i)) (fits 3000100000000 _ (lit< tt) (pulled-within (case-of (s .case)) (prices-of (g .C·Column .value) (s .prices)) (record { item = c .args .branch .now; row = c .args .row })))
+    subst (SFits w64) (sym (λ i. w i +ℤ a i)) (fits 3000100000000 _ (lit< tt) (pulled-within (case-of (s .case)) (prices-of (g .C·Column .value) (s .prices .now)) (record { item = c .args .branch .now; row = c .args .row })))
 
 pub returns : need.returns
 unfolding pull
@@ -25,5 +25,5 @@ returns g c =
     let s = c .args .self .now in
     let w = passed (c .weight .result) (c .weight .ok) ∙ c .weight .ensures in
     let a = passed (c .angle-price-at .result) (c .angle-price-at .ok) ∙ c .angle-price-at .ensures in
-    let f = subst (SFits w64) (sym (λ i. w i +ℤ a i)) (fits 3000100000000 _ (lit< tt) (pulled-within (case-of (s .case)) (prices-of (g .C·Column .value) (s .prices)) (record { item = c .args .branch .now; row = c .args .row }))) in
+    let f = subst (SFits w64) (sym (λ i. w i +ℤ a i)) (fits 3000100000000 _ (lit< tt) (pulled-within (case-of (s .case)) (prices-of (g .C·Column .value) (s .prices .now)) (record { item = c .args .branch .now; row = c .args .row }))) in
     passed (c .only-if .result) (c .only-if .ok) ∙ c .only-if .ensures ∙ ap (only (c .args .branch .now .service)) (toZ-ofZ w64 _ f ∙ (λ i. w i +ℤ a i))

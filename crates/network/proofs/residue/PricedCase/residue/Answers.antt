@@ -11,13 +11,13 @@ use Rattle.network.proofs.residue.PricedCase.residue.Needs as need
 pub sum-requires : need.sum-requires
 sum-requires g c κs =
     let s = c .args .self .now in
-    let q = prices-of (g .C·Column .value) (s .prices) in
+    let q = prices-of (g .C·Column .value) (s .prices .now) in
     rows-small 6000200000000 (share (case-of (s .case)) (kept-prices q) (c .args .bus)) (s .case .branches .now) (s .case .nl) (lit≤ tt) (share-within (case-of (s .case)) q (c .args .bus))
 
 pub returns : need.returns
 returns g c =
     let s = c .args .self .now in
-    let q = kept-prices (prices-of (g .C·Column .value) (s .prices)) in
+    let q = kept-prices (prices-of (g .C·Column .value) (s .prices .now)) in
     toZ-ofZ w64 (c .sum .result) (record { sfits = c .sum .ok })
     ∙ c .sum .ensures
     ∙ sum-rows (share (case-of (s .case)) q (c .args .bus)) (s .case .branches .now) (s .case .nl)

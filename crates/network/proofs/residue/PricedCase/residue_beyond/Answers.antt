@@ -11,5 +11,5 @@ pub returns : need.returns
 returns g c =
     let s = c .args .self .now in
     let k = case-of (s .case) in
-    let q = kept-prices (prices-of (g .C·Column .value) (s .prices)) in
+    let q = kept-prices (prices-of (g .C·Column .value) (s .prices .now)) in
     residue-lowest k q (c .first-broken .result) (subst (λ n. Lowest (λ i. (i < n) × (residue-beyond k q i ≡ true)) (c .first-broken .result)) (c .rows-used-buses .ensures) (c .first-broken .ensures))

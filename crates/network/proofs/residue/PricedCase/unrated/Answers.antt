@@ -1,10 +1,10 @@
 use Rattle.network.specs.Kept.{prices-of, unrated}
-use Rattle.network.proofs.Limits.{lowest-row}
+use Rattle.network.proofs.RowLimits.{lowest-row}
 use Rattle.network.proofs.PriceLists.{Unrated-branch, unrated-true, true-unrated}
 use Rattle.network.proofs.residue.PricedCase.unrated.Needs as need
 
 pub returns : need.returns
 returns g c =
     let s = c .args .self .now in
-    let q = prices-of (g .C·Column .value) (s .prices) in
+    let q = prices-of (g .C·Column .value) (s .prices .now) in
     lowest-row (unrated q) (Unrated-branch q) (unrated-true q) (true-unrated q) (s .case .branches .now) (s .case .nl) (c .first-broken .result) (c .first-broken .ensures)

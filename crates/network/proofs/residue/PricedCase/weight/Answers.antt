@@ -18,7 +18,7 @@ weighed-requires g c κs =
       passed (c .price-at-2 .result) (c .price-at-2 .ok) ∙ c .price-at-2 .ensures,
       passed (c .congestion-at .result) (c .congestion-at .ok) ∙ c .congestion-at .ensures,
     )
-    (weighed-by (case-of (s .case)) (prices-of (g .C·Column .value) (s .prices)) (record { item = b; row = c .args .row }))
+    (weighed-by (case-of (s .case)) (prices-of (g .C·Column .value) (s .prices .now)) (record { item = b; row = c .args .row }))
 
 pub returns : need.returns
 unfolding weight

@@ -19,7 +19,7 @@ sub-result g c =
     let p = passed (c .pull-pull .result) (c .pull-pull .ok) ∙ c .pull-pull .ensures in
     let l = passed (c .only-if-leaving .result) (c .only-if-leaving .ok) ∙ c .only-if-leaving .ensures ∙ ap (only (eqb (b .ends .from) (s .bus))) p in
     let a = passed (c .only-if-arriving .result) (c .only-if-arriving .ok) ∙ c .only-if-arriving .ensures ∙ ap (only (eqb (b .ends .to) (s .bus))) p in
-    subst (SFits w64) (sym (λ i. l i -ℤ a i)) (fits 6000200000000 _ (lit< tt) (share-within (case-of (s .priced .case)) (prices-of (g .C·Column .value) (s .priced .prices)) (s .bus) (record { item = b; row = c .args .row })))
+    subst (SFits w64) (sym (λ i. l i -ℤ a i)) (fits 6000200000000 _ (lit< tt) (share-within (case-of (s .priced .case)) (prices-of (g .C·Column .value) (s .priced .prices .now)) (s .bus) (record { item = b; row = c .args .row })))
 
 pub returns : need.returns
 unfolding share
@@ -29,5 +29,5 @@ returns g c =
     let p = passed (c .pull-pull .result) (c .pull-pull .ok) ∙ c .pull-pull .ensures in
     let l = passed (c .only-if-leaving .result) (c .only-if-leaving .ok) ∙ c .only-if-leaving .ensures ∙ ap (only (eqb (b .ends .from) (s .bus))) p in
     let a = passed (c .only-if-arriving .result) (c .only-if-arriving .ok) ∙ c .only-if-arriving .ensures ∙ ap (only (eqb (b .ends .to) (s .bus))) p in
-    let f = subst (SFits w64) (sym (λ i. l i -ℤ a i)) (fits 6000200000000 _ (lit< tt) (share-within (case-of (s .priced .case)) (prices-of (g .C·Column .value) (s .priced .prices)) (s .bus) (record { item = b; row = c .args .row }))) in
+    let f = subst (SFits w64) (sym (λ i. l i -ℤ a i)) (fits 6000200000000 _ (lit< tt) (share-within (case-of (s .priced .case)) (prices-of (g .C·Column .value) (s .priced .prices .now)) (s .bus) (record { item = b; row = c .args .row }))) in
     toZ-ofZ w64 _ f ∙ (λ i. l i -ℤ a i)

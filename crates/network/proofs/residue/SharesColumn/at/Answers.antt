@@ -11,7 +11,7 @@ use Rattle.network.proofs.residue.SharesColumn.at.Needs as need
 pub returns-then-row-self : need.returns-then-row-self
 returns-then-row-self g c =
     let s = c .args .self .now in
-    let f = share (case-of (s .priced .case)) (kept-prices (prices-of (g .C·Column .value) (s .priced .prices))) (s .bus) in
+    let f = share (case-of (s .priced .case)) (kept-prices (prices-of (g .C·Column .value) (s .priced .prices .now))) (s .bus) in
     row-is (pos 0) f (s .priced .case .branches .now) (c .args .row) _ (c .if-row-self .taken)
     (λ x k. toZ-ofZ w64 (c .of .result) (record { sfits = c .of .ok }) ∙ c .of .ensures ∙ ap (λ (b : Branch). f (record { item = b; row = c .args .row })) (sym (stands-getD (s .priced .case .branches .now) (c .args .row) x _ k)))
 

@@ -2,6 +2,7 @@
 mod report;
 mod tables;
 
+use crate::report::floor_all;
 use crate::report::judge_all;
 use crate::report::refused;
 use crate::tables::BRANCHES;
@@ -102,7 +103,8 @@ fn run(rt: &LibcRuntime, tolerance: u32) -> io::Result<()> {
                 &second,
                 &branches,
             );
-            judge_all(rt, &case)
+            judge_all(rt, &case)?;
+            floor_all(rt, &case)
         }
     }
 }

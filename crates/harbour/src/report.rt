@@ -1,4 +1,5 @@
 // What becomes of each dispatch and each price list, in lines.
+use crate::tables::LISTS;
 use crate::tables::OFFERS;
 use curved::curved::Curved;
 use curved::curved::CurvedMachine;
@@ -7,6 +8,7 @@ use measure::column::Table;
 use measure::column::TableColumn;
 use network::case::Case;
 use network::dispatch::Dispatch;
+use network::prices::Prices;
 use network::refusal::Refusal;
 use std::io;
 use stepped::stepped::Stepped;
@@ -37,6 +39,48 @@ fn judged<'t>(
     case.judge(&dispatch)
 }
 
+// The floor of a price list of three tables.
+fn floored<'t>(
+    case: &Case<Stepped, Curved>,
+    bus: &'t [i64],
+    congestion: &'t [i64],
+    angle: &'t [i64],
+) -> Result<Grains, Refusal> {
+    let bus = Table { values: bus };
+    let congestion = Table { values: congestion };
+    let angle = Table { values: angle };
+    let prices = Prices {
+        bus,
+        congestion,
+        angle,
+    };
+    case.floor(&prices)
+}
+
+// The figure, or the refusal by its number and place.
+fn answer(rt: &LibcRuntime, what: &str, answer: Result<Grains, Refusal>) -> io::Result<()> {
+    match answer {
+        Ok(figure) => {
+            let grains = figure.0;
+            println!(rt, "  {what} {grains}")
+        }
+        Err(refusal) => refused(rt, refusal),
+    }
+}
+
+// The floor of each price list.
+pub fn floor_all(rt: &LibcRuntime, case: &Case<Stepped, Curved>) -> io::Result<()> {
+    for list in LISTS.iter() {
+        let p = list.first;
+        let q = list.second;
+        let c = list.congestion;
+        let a = list.angle;
+        println!(rt, "prices {p} {q} {c} {a}")?;
+        answer(rt, "floor", floored(case, &[p, q], &[c], &[a]))?;
+    }
+    Ok(())
+}
+
 // Judges each dispatch.
 pub fn judge_all(rt: &LibcRuntime, case: &Case<Stepped, Curved>) -> io::Result<()> {
     for offer in OFFERS.iter() {
@@ -44,16 +88,7 @@ pub fn judge_all(rt: &LibcRuntime, case: &Case<Stepped, Curved>) -> io::Result<(
         let q = offer.second;
         let a = offer.angle;
         println!(rt, "dispatch {p} {q} {a}")?;
-        let first = [p];
-        let second = [q];
-        let angles = [a];
-        match judged(case, &first, &second, &angles) {
-            Ok(cost) => {
-                let grains = cost.0;
-                println!(rt, "  cost {grains}")?;
-            }
-            Err(refusal) => refused(rt, refusal)?,
-        }
+        answer(rt, "cost", judged(case, &[p], &[q], &[a]))?;
     }
     Ok(())
 }

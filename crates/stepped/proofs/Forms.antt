@@ -1,19 +1,18 @@
 -- The walk along a cost in straight pieces.
 use mathlib.Core.Path.{_≡_, refl, sym, ap, subst, _∙_}
-use mathlib.Core.Bool.{true, false}
 use mathlib.Core.List.{List, [], _∷_}
 use mathlib.Core.Logic.{_⊎_, inl, inr, ⊎-elim}
 use native.Mathlib.Omega.{arith}
 use lib.IntN.{ℤ, pos, _+ℤ_, _-ℤ_, _*ℤ_}
 use lib.Signed.{leZ, ltZ, _≤ℤ_, _<ℤ_}
-use borrow.Author.Differences.{true-is-le, le-out}
 use Rattle.std.specs.Numbers.{minZ}
 use Rattle.std.proofs.shelf.Signed.{by-ltZ, clamps}
 use Rattle.std.proofs.shelf.Tests.{cond-both, cond-true}
 use Rattle.measure.specs.Range.{Within}
-use Rattle.stepped.specs.Piecewise.{Chain, All-within, Carried, walk, net, least-walk}
+use Rattle.measure.specs.Rows.{All}
+use Rattle.stepped.specs.Piecewise.{Chain, Carried, walk, net, least-walk}
 use Rattle.measure.proofs.Laws.{expand, lin, mul-one}
-use Rattle.measure.proofs.Order.{mul-mono, mul-nonneg, product-within, product-between}
+use Rattle.measure.proofs.Order.{mul-mono, mul-nonneg, product-within, product-between, test, at-most, under}
 use Rattle.measure.proofs.Fractions.{move-above, move-below}
 
 min-left : (x y : ℤ) → minZ x y ≤ℤ x
@@ -45,15 +44,6 @@ module _ (base p s q a b n d : ℤ) (positive : pos 1 ≤ℤ d) (low : (a *ℤ d
       by-ltZ s q
       (λ l. let t = from-right (omega (arith, lin)) in let u = mul-mono r (net base p s q b) d (omega (arith, lin)) k in omega (arith, lin))
       (λ l. let t = from-left l in let u = mul-mono r (net base p s q a) d (omega (arith, lin)) h in omega (arith, lin))
-
-at-most : (a b : ℤ) → leZ a b ≡ true → a ≤ℤ b
-at-most a b e = omega (arith, lin)
-
-under : (a b : ℤ) → leZ a b ≡ false → b <ℤ a
-under a b e = omega (arith, lin)
-
-test : (a b : ℤ) → a ≤ℤ b → leZ a b ≡ true
-test a b h = sym (true-is-le a b (le-out a b h))
 
 -- at its own start a walk has its base
 start-line : (base p s d : ℤ) → base *ℤ d +ℤ s *ℤ (p *ℤ d -ℤ p *ℤ d) ≡ base *ℤ d
@@ -203,7 +193,8 @@ line-within base p s y c w v u =
     let t = product-within 1000000 200000000 s (y -ℤ p *ℤ pos 1) v d in
     omega (arith, lin)
 
-pub walk-within : (base p s : ℤ) (ks ts : List ℤ) (y : ℤ) → Chain p ks → Carried base p → Within 100000000 p → Within 1000000 s → All-within 100000000 ks → All-within 1000000 ts → Within 100000000 y → Within 500000000000000 (walk base p s ks ts y (pos 1))
+pub walk-within : (base p s : ℤ) (ks ts : List ℤ) (y : ℤ) → Chain p ks → Carried base p → Within 100000000 p → Within 1000000 s → All (Within 100000000) ks → All (Within 1000000) ts → Within 100000000 y → Within 500000000000000 (walk base p s ks ts y (pos 1))
+unfolding All
 walk-within base p s [] ts y c b w v ws vs u = line-within base p s y b w v u
 walk-within base p s (k ∷ ks) [] y c b w v ws vs u = line-within base p s y b w v u
 walk-within base p s (k ∷ ks) (t ∷ ts) y c b w v ws vs u =

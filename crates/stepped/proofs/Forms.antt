@@ -49,7 +49,7 @@ module _ (base p s q a b n d : ℤ) (positive : pos 1 ≤ℤ d) (low : (a *ℤ d
 start-line : (base p s d : ℤ) → base *ℤ d +ℤ s *ℤ (p *ℤ d -ℤ p *ℤ d) ≡ base *ℤ d
 start-line base p s d = simp expand (omega (arith, lin))
 
-walk-start : (base p s : ℤ) (ks ts : List ℤ) (d : ℤ) → pos 1 ≤ℤ d → Chain p ks → walk base p s ks ts (p *ℤ d) d ≡ base *ℤ d
+pub walk-start : (base p s : ℤ) (ks ts : List ℤ) (d : ℤ) → pos 1 ≤ℤ d → Chain p ks → walk base p s ks ts (p *ℤ d) d ≡ base *ℤ d
 walk-start base p s [] ts d h c = start-line base p s d
 walk-start base p s (k ∷ ks) [] d h c = start-line base p s d
 walk-start base p s (k ∷ ks) (t ∷ ts) d h c =
@@ -59,7 +59,7 @@ line-end : (base p s k d : ℤ) → base *ℤ d +ℤ s *ℤ (k *ℤ d -ℤ p *�
 line-end base p s k d = simp expand (omega (arith, lin))
 
 -- from the next point on, the walk is the walk from there
-walk-next : (base p s k t : ℤ) (ks ts : List ℤ) (n d : ℤ) → pos 1 ≤ℤ d → Chain k ks → (k *ℤ d) ≤ℤ n → walk base p s (k ∷ ks) (t ∷ ts) n d ≡ walk (base +ℤ s *ℤ (k -ℤ p)) k t ks ts n d
+pub walk-next : (base p s k t : ℤ) (ks ts : List ℤ) (n d : ℤ) → pos 1 ≤ℤ d → Chain k ks → (k *ℤ d) ≤ℤ n → walk base p s (k ∷ ks) (t ∷ ts) n d ≡ walk (base +ℤ s *ℤ (k -ℤ p)) k t ks ts n d
 walk-next base p s k t ks ts n d h c l =
     cond-both (leZ n (k *ℤ d)) _ _ (λ w. w ≡ walk (base +ℤ s *ℤ (k -ℤ p)) k t ks ts n d)
     (λ e.
@@ -72,7 +72,7 @@ walk-next base p s k t ks ts n d h c l =
     (λ e. refl)
 
 -- up to the next point, it is the line
-walk-line : (base p s k t : ℤ) (ks ts : List ℤ) (n d : ℤ) → n ≤ℤ (k *ℤ d) → walk base p s (k ∷ ks) (t ∷ ts) n d ≡ base *ℤ d +ℤ s *ℤ (n -ℤ p *ℤ d)
+pub walk-line : (base p s k t : ℤ) (ks ts : List ℤ) (n d : ℤ) → n ≤ℤ (k *ℤ d) → walk base p s (k ∷ ks) (t ∷ ts) n d ≡ base *ℤ d +ℤ s *ℤ (n -ℤ p *ℤ d)
 walk-line base p s k t ks ts n d l = cond-true (leZ n (k *ℤ d)) _ _ (test n (k *ℤ d) l)
 
 net-end : (base p s q k : ℤ) → net base p s q k ≡ net (base +ℤ s *ℤ (k -ℤ p)) k s q k

@@ -8,7 +8,7 @@ use Rattle.std.proofs.shelf.Signed.{by-ltZ}
 use Rattle.measure.specs.Range.{Within, floor-div, ceil-div}
 use Rattle.measure.proofs.Quotient.{floor-div-is}
 use Rattle.measure.proofs.Laws.{expand, flat, lin}
-use Rattle.measure.proofs.Order.{product-within, product-between, mul-mono, mul-cancel, mul-cancel-strict, mul-nonneg, mul-positive, square-nonneg, positive-factor}
+use Rattle.measure.proofs.Order.{product-within, product-between, mul-mono, mul-cancel, mul-cancel-strict, mul-nonneg, mul-positive, square-nonneg, positive-factor, at-most, under}
 
 -- r ≤ a - b x + c2 x x / 1,000,000
 abbrev pub Plain : ℤ → ℤ → ℤ → ℤ → ℤ → ℤ → Type 0
@@ -101,12 +101,6 @@ same-cost a c1 c2 n d m e h =
     let s = ap (λ (t : ℤ). t *ℤ (c1 *ℤ d *ℤ d *ℤ e *ℤ e)) h in
     let t : (n *ℤ e) *ℤ (n *ℤ e) *ℤ (c2 *ℤ d *ℤ e) ≡ (m *ℤ d) *ℤ (m *ℤ d) *ℤ (c2 *ℤ d *ℤ e) = ap (λ (t : ℤ). t *ℤ t *ℤ (c2 *ℤ d *ℤ e)) h in
     simp expand (simp flat (omega (arith, lin, simp flat at (simp expand at s), simp flat at (simp expand at t))))
-
-at-most : (a b : ℤ) → leZ a b ≡ true → a ≤ℤ b
-at-most a b e = omega (arith, lin)
-
-under : (a b : ℤ) → leZ a b ≡ false → b <ℤ a
-under a b e = omega (arith, lin)
 
 -- the slope at a limit, and the way from it to n / d
 module _ (b c2 p n d : ℤ) where

@@ -12,10 +12,11 @@ use Rattle.machine.specs.Meaning.{Lawful, Margin, Keeps}
 use Rattle.machine.specs.Limits.{limits-in-range}
 use Rattle.curved.specs.Quadratic.{Ranges, in-range, quadratic, rounded-up, at-limit, at-vertex, least-over, curved-meaning}
 use Rattle.machine.proofs.Idle.{lawful-if}
-use Rattle.machine.proofs.InRange.{within, limits, limits-range, limits-whole, power-within}
+use Rattle.machine.proofs.InRange.{limits, limits-lawful}
 use Rattle.curved.specs.declared.curved.Curved.{Curved}
 use Rattle.measure.proofs.Laws.{lin}
-use Rattle.measure.proofs.Fractions.{den-positive, between-same, whole-between}
+use Rattle.measure.proofs.Order.{test-within}
+use Rattle.measure.proofs.Fractions.{den-positive}
 use Rattle.curved.proofs.Forms.{rounded-within, limit-within, vertex-within, Below, slope-up, slope-down, vertex-above, vertex-under, below-from, plain-from, plain-from-limit, plain-from-vertex, limit-plain, limit-greatest, vertex-fits, vertex-greatest, rounded-above, rounded-least, above-from, above-to, same-cost}
 
 pub ranges : (m : Curved) → in-range m ≡ true → Ranges m
@@ -26,8 +27,8 @@ ranges m e =
     let c2 = and-parts (leZ (pos 1) (m .c2)) (leZ (m .c2) (pos 500)) (f .1) in
     record {
       limits = limits (m .bus) (m .lo .0) (m .hi .0) (h .0);
-      c0 = within 100000000 (m .c0) (h .1);
-      c1 = within 1000000 (m .c1) (g .1);
+      c0 = test-within 100000000 (m .c0) (h .1);
+      c1 = test-within 1000000 (m .c1) (g .1);
       c2-low = omega (arith, lin, c2 .0);
       c2-high = omega (arith, lin, c2 .1);
     }
@@ -84,24 +85,15 @@ module _ (m : Curved) (ok : Ranges m) where
       (λ e. cond-both _ _ _ (Within 1000000000000000) (λ f. limit-within (m .c0) (m .c1) (m .c2) (m .hi .0) (ok .c0) c2 (ok .limits .high) (q -ℤ m .c1) b)
       (λ f. vertex-within (m .c0) (q -ℤ m .c1) (m .c2) (m .lo .0) (m .hi .0) (ok .c0) b (ok .c2-low) (ok .limits .low) (ok .limits .high) (vertex-above (q -ℤ m .c1) (m .c2) (m .lo .0) e) (vertex-under (q -ℤ m .c1) (m .c2) (m .hi .0) f)))
 
-  answer-range : (p : ℤ) → allowed (whole p) → Within 1000000000000000 (rounded-up m p)
-  answer-range p a =
-      let l = whole-between (m .lo .0) (m .hi .0) p a in
-      let power = power-within (m .lo .0) (m .hi .0) (ok .limits) p (l .0) (l .1) in
-      rounded-within (m .c0) (m .c1) (m .c2) p (ok .c0) (omega (arith, lin, ok .c2-low, ok .c2-high)) power (ok .c1)
+  answer-range : (p : ℤ) → Within 100000000 p → Within 1000000000000000 (rounded-up m p)
+  answer-range p power = rounded-within (m .c0) (m .c1) (m .c2) p (ok .c0) (omega (arith, lin, ok .c2-low, ok .c2-high)) power (ok .c1)
 
   lawful : Lawful allowed (quadratic m) (rounded-up m) (λ q. least-over m (q -ℤ m .c1))
   unfolding _+ᶠ_ _-ᶠ_ _*ᶠ_ _·ᶠ_
-  lawful = record {
-    allowed-same = between-same (m .lo .0) (m .hi .0);
-    cost-same = λ x y s a. record { cross = same-cost fixed (m .c1) (m .c2) (x .num) (pos (x .den)) (y .num) (pos (y .den)) (s .cross) };
-    allowed-range = limits-range (m .lo .0) (m .hi .0) (ok .limits);
-    allowed-whole = limits-whole (m .lo .0) (m .hi .0) (ok .limits);
-    answer-is = λ p a. answer-is p;
-    answer-range = answer-range;
-    margin-is = λ q h. margin-is q;
-    margin-range = margin-range;
-  }
+  lawful =
+      limits-lawful (m .lo .0) (m .hi .0) (ok .limits) (quadratic m) (rounded-up m) (λ q. least-over m (q -ℤ m .c1))
+      (λ x y s. record { cross = same-cost fixed (m .c1) (m .c2) (x .num) (pos (x .den)) (y .num) (pos (y .den)) (s .cross) })
+      answer-is answer-range margin-is margin-range
 
 pub curved-lawful : Keeps curved-meaning
 curved-lawful m = lawful-if (in-range m) (Between (m .lo .0) (m .hi .0)) (quadratic m) (rounded-up m) (λ q. least-over m (q -ℤ m .c1)) (λ e. lawful m (ranges m e))

@@ -4,7 +4,6 @@ use mathlib.Core.Bool.{Bool, true, false}
 use native.Mathlib.Omega.{arith}
 use lib.IntN.{ℤ, pos}
 use lib.Signed.{_≤ℤ_, leZ}
-use borrow.Author.Differences.{true-is-le, le-out}
 use Rattle.std.specs.Orderings.{Decides}
 use Rattle.std.proofs.shelf.Tests.{and-parts, and-from, cond-true, both-ways}
 use Rattle.measure.specs.Range.{Within, between}
@@ -12,11 +11,9 @@ use Rattle.measure.specs.Fraction.{whole, Between}
 use Rattle.machine.specs.Idle.{allowed-if, answer-if}
 use Rattle.machine.specs.Limits.{Limits}
 use Rattle.measure.proofs.Laws.{lin}
+use Rattle.measure.proofs.Order.{test}
 use Rattle.measure.proofs.Fractions.{between-whole, whole-between}
 use Rattle.machine.proofs.InRange.{power-within}
-
-test : (a b : ℤ) → a ≤ℤ b → leZ a b ≡ true
-test a b h = sym (true-is-le a b (le-out a b h))
 
 between-decides : (lo hi p : ℤ) → Decides (between lo hi p) (Between lo hi (whole p))
 between-decides lo hi p = (

@@ -10,9 +10,9 @@ use lib.Signed.{_≤ℤ_, _<ℤ_, leZ}
 use Rattle.std.proofs.shelf.Signed.{by-ltZ}
 use Rattle.std.proofs.shelf.Tests.{and-parts, and-from, cond-true, cond-both}
 use borrow.Author.Differences.{true-is-le, le-out}
-use mathlib.Core.Bool.{true}
+use mathlib.Core.Bool.{true, false}
 use Rattle.measure.specs.Range.{Within, between, kept, ∣_∣}
-use Rattle.measure.proofs.Laws.{expand, flat, lin, neg-mul, mul-neg}
+use Rattle.measure.proofs.Laws.{expand, lin, neg-mul, mul-neg}
 use Rattle.measure.proofs.Ring.{ring, Expr, eval, norm, allZero, sub}
 
 pub mul-nonneg : (a b : ℤ) → pos 0 ≤ℤ a → pos 0 ≤ℤ b → pos 0 ≤ℤ (a *ℤ b)
@@ -133,3 +133,10 @@ kept-within n z =
 
 pub kept-same : (n : ℕ) (z : ℤ) → Within n z → kept (negℤ (pos n)) (pos n) z ≡ z
 kept-same n z h = cond-true (between (negℤ (pos n)) (pos n) z) z (pos 0) (within-test n z h)
+
+-- what a test of the order tells
+pub at-most : (a b : ℤ) → leZ a b ≡ true → a ≤ℤ b
+at-most a b e = omega (arith, lin)
+
+pub under : (a b : ℤ) → leZ a b ≡ false → b <ℤ a
+under a b e = omega (arith, lin)

@@ -4,7 +4,7 @@ use mathlib.Core.Bool.{Bool, true, false}
 use mathlib.Core.List.{List, [], _∷_, _++_, map}
 use Prim.Native.Nat.{ℕ, suc, _+_, _*_, _/_, _≤_, _<_}
 use Prim.Native.Nat.{_∣_}
-use native.Mathlib.Nat.{div-mul-cancel, dvd-mul-right, dvd-mul-left-of-dvd, one-le-mul, le-refl}
+use native.Mathlib.Nat.{div-mul-cancel, dvd-mul-right, dvd-mul-left-of-dvd, one-le-mul}
 use native.Mathlib.Omega.{arith}
 use native.Mathlib.Decide.{decLt}
 use lib.Dec.{lit≤}
@@ -14,7 +14,7 @@ use lib.Signed.{_≤ℤ_}
 use Rattle.measure.specs.Fraction.{Fraction, whole, _+ᶠ_, _-ᶠ_, _·ᶠ_, _≤ᶠ_, Between, Same}
 use Rattle.measure.specs.Rows.{Row, numbered, total, totalᶠ, only, onlyᶠ}
 use Rattle.measure.proofs.Laws.{lin, mul-assoc, mul-one, neg-mul}
-use Rattle.measure.proofs.Ring.{ring, Expr, var, con, add, sub, mul, neg}
+use Rattle.measure.proofs.Ring.{ring, var, add, sub, mul}
 use Rattle.measure.proofs.Order.{mul-le, cancel, mul-cancel-eq, along}
 use Rattle.measure.proofs.Sums.{In, here, there}
 
@@ -153,3 +153,42 @@ over-one k = record { cross = refl }
 -- within ±a, over D
 pub within-over : (D : ℕ) (a : ℤ) (f : Fraction) (X : ℤ) → Over D f X → Between (negℤ a) a f → (negℤ (a *ℤ pos D) ≤ℤ X) × (X ≤ℤ (a *ℤ pos D))
 within-over D a f X h w = let b = between-over D (negℤ a) a f X h w in (along (neg-mul a (pos D)) refl (b .0), b .1)
+
+-- a fraction of a list, over the list's common denominator
+abbrev common-over : (fs : List Fraction) (f : Fraction) → In f fs → Over (common fs) f (scaled (common fs) f)
+common-over fs f k = over-scaled (common fs) f (divides-common f fs k)
+
+-- fractions that are the same, over D
+pub same-over : (D : ℕ) (f g : Fraction) (X Y : ℤ) → Over D f X → Over D g Y → Same f g → X ≡ Y
+same-over D f g X Y h k s =
+    let a = over-le D f g X Y h k (record { cross = omega (arith, lin, s .cross) }) in
+    let b = over-le D g f Y X k h (record { cross = omega (arith, lin, s .cross) }) in
+    omega (arith, lin)
+
+-- two that are the same as a third
+pub same-both : (f g r : Fraction) → Same f r → Same g r → Same f g
+same-both f g r s t =
+    let fs = f ∷ (g ∷ (r ∷ [])) in
+    let D = common fs in
+    let F = common-over fs f here in
+    let G = common-over fs g (there here) in
+    let R = common-over fs r (there (there here)) in
+    over-same D (common-positive fs) f g (scaled D f) F (subst (Over D g) (same-over D g r _ _ G R t ∙ sym (same-over D f r _ _ F R s)) G)
+
+-- two that differ by the same from two that are the same
+pub difference-same : (a b f g r : Fraction) → Same a b → Same (f -ᶠ a) r → Same (g -ᶠ b) r → Same f g
+difference-same a b f g r s t u =
+    let fs = a ∷ (b ∷ (f ∷ (g ∷ (r ∷ [])))) in
+    let D = common fs in
+    let A = common-over fs a here in
+    let B = common-over fs b (there here) in
+    let F = common-over fs f (there (there here)) in
+    let G = common-over fs g (there (there (there here))) in
+    let R = common-over fs r (there (there (there (there here)))) in
+    let e = same-over D a b _ _ A B s in
+    let h = same-over D (f -ᶠ a) r _ _ (over-sub D f a _ _ F A) R t in
+    let k = same-over D (g -ᶠ b) r _ _ (over-sub D g b _ _ G B) R u in
+    over-same D (common-positive fs) f g (scaled D f) F (subst (Over D g) (equal (scaled D a) (scaled D b) (scaled D f) (scaled D g) (scaled D r) e h k) G)
+  where
+    equal : (a b f g r : ℤ) → a ≡ b → f -ℤ a ≡ r → g -ℤ b ≡ r → g ≡ f
+    equal a b f g r e h k = omega (arith, lin)

@@ -6,14 +6,15 @@ use Prim.Native.Nat.{ℕ, zero, suc, _+_, _*_, _<_, _≤_}
 use native.Mathlib.Omega.{arith}
 use native.Mathlib.Decide.{decLt}
 use native.Mathlib.Numerals.{add-one}
-use native.Mathlib.Nat.{zero-mul, suc-mul}
+use native.Mathlib.Nat.{zero-mul, suc-mul, mul-le-mul-right, add-zero, zero-add, min-le-left}
 use lib.Dec.{T, eqb, eqb→eq, eqb-refl}
 use lib.IntN.{ℤ, pos, negℤ, _+ℤ_, _-ℤ_, _*ℤ_, *ℤ-zero, +ℤ-idl, +ℤ-idr}
 use lib.ListN.{length, getD, take}
 use lib.Signed.{_≤ℤ_}
+use Rattle.std.proofs.shelf.Lists.{length-take}
 use Rattle.measure.specs.Range.{Within}
 use Rattle.measure.specs.Rows.{Row, numbered, rows, total, only, All, Stands, Holds-at, sum-to, Small, row-or, row-value}
-use Rattle.measure.proofs.Laws.{lin, mul-add, mul-one}
+use Rattle.measure.proofs.Laws.{lin, mul-add}
 
 -- ---- what holds of each
 -- x stands in the list
@@ -32,6 +33,10 @@ unfolding All
 each P [] f = tt
 each P (x ∷ xs) f = (f x here, each P xs (λ y k. f y (there k)))
 
+-- row i + 1 from n on is row i from n + 1 on
+pub next-row : (n i : ℕ) → n + suc i ≡ suc n + i
+next-row n i = omega arith
+
 -- a numbered row's item stands in the table, at its number
 pub row-stands : {X : Type 0} (n : ℕ) (xs : List X) (r : Row X) → In r (numbered n xs) → (i : ℕ) × (r .row ≡ n + i) × (i < length xs) × Stands xs i (r .item)
 unfolding numbered Stands
@@ -47,15 +52,9 @@ pub stands-row : {X : Type 0} (n : ℕ) (xs : List X) (i : ℕ) (x : X) → Stan
 unfolding numbered Stands
 stands-row n [] i x k = absurd k
 stands-row n (y ∷ ys) zero x k =
-    subst (λ (r : Row _). In r (record { item = y; row = n } ∷ numbered (suc n) ys)) (λ j. record { item = sym k j; row = plus-zero n j }) here
-  where
-    plus-zero : (n : ℕ) → n ≡ n + 0
-    plus-zero n = omega arith
+    subst (λ (r : Row _). In r (record { item = y; row = n } ∷ numbered (suc n) ys)) (λ j. record { item = sym k j; row = sym (add-zero n) j }) here
 stands-row n (y ∷ ys) (suc i) x k =
-    subst (λ (m : ℕ). In (record { item = x; row = m }) (record { item = y; row = n } ∷ numbered (suc n) ys)) (shifted n i) (there (stands-row (suc n) ys i x k))
-  where
-    shifted : (n i : ℕ) → suc n + i ≡ n + suc i
-    shifted n i = omega arith
+    subst (λ (m : ℕ). In (record { item = x; row = m }) (record { item = y; row = n } ∷ numbered (suc n) ys)) (sym (next-row n i)) (there (stands-row (suc n) ys i x k))
 
 -- ---- term by term
 pub total-le : {X : Type 0} (f g : X → ℤ) (xs : List X) → ((x : X) → In x xs → f x ≤ℤ g x) → total f xs ≤ℤ total g xs
@@ -192,21 +191,12 @@ row-past y f n (x ∷ xs) (suc i) h = row-past y f (suc n) xs i (omega arith)
 row-from : {X Y : Type 0} (y : Y) (f : Row X → Y) (n : ℕ) (xs : List X) (i : ℕ) (z : Y) → i < length xs → ((x : X) → Stands xs i x → z ≡ f (record { item = x; row = n + i })) → z ≡ row-or y f n xs i
 unfolding row-or Stands
 row-from y f n [] i z h e = absurd (omega arith)
-row-from y f n (x ∷ xs) zero z h e = e x refl ∙ ap (λ k. f (record { item = x; row = k })) (plus-zero n)
-  where
-    plus-zero : (n : ℕ) → n + 0 ≡ n
-    plus-zero n = omega arith
-row-from y f n (x ∷ xs) (suc i) z h e = row-from y f (suc n) xs i z (omega arith) (λ v s. e v s ∙ ap (λ k. f (record { item = v; row = k })) (shifted n i))
-  where
-    shifted : (n i : ℕ) → n + suc i ≡ suc n + i
-    shifted n i = omega arith
+row-from y f n (x ∷ xs) zero z h e = e x refl ∙ ap (λ k. f (record { item = x; row = k })) (add-zero n)
+row-from y f n (x ∷ xs) (suc i) z h e = row-from y f (suc n) xs i z (omega arith) (λ v s. e v s ∙ ap (λ k. f (record { item = v; row = k })) (next-row n i))
 
 -- what the item in row i gives is the value of the row
 pub row-is : {X Y : Type 0} (y : Y) (f : Row X → Y) (xs : List X) (i : ℕ) (z : Y) → i < length xs → ((x : X) → Stands xs i x → z ≡ f (record { item = x; row = i })) → z ≡ row-or y f 0 xs i
-row-is y f xs i z h e = row-from y f 0 xs i z h (λ x s. e x s ∙ ap (λ k. f (record { item = x; row = k })) (zero-plus i))
-  where
-    zero-plus : (i : ℕ) → i ≡ 0 + i
-    zero-plus i = omega arith
+row-is y f xs i z h e = row-from y f 0 xs i z h (λ x s. e x s ∙ ap (λ k. f (record { item = x; row = k })) (sym (zero-add i)))
 
 -- what holds of y and of f at every row holds of the value
 pub row-all : {X Y : Type 0} (P : Y → Type 0) (y : Y) (f : Row X → Y) (n : ℕ) (xs : List X) (i : ℕ) → P y → ((r : Row X) → P (f r)) → P (row-or y f n xs i)
@@ -273,10 +263,30 @@ passed P xs i x s not h =
 pub holds-below : {X : Type 0} (P : Row X → Type 0) (xs : List X) (i : ℕ) → Holds-at P xs i → i < length xs
 holds-below P xs i h = stands-below xs i (h .item) (h .stands)
 
--- the size of a sum over a table's first rows, and that it can be taken
+-- the size of a sum
+total-within : {X : Type 0} (b : ℕ) (f : X → ℤ) (xs : List X) → ((x : X) → In x xs → Within b (f x)) → Within (length xs * b) (total f xs)
+unfolding total
+total-within b f [] h = omega (arith, lin)
+total-within b f (x ∷ xs) h =
+    let j = h x here in
+    let k = total-within b f xs (λ y i. h y (there i)) in
+    omega (arith, lin)
+
+numbered-length : {X : Type 0} (n : ℕ) (xs : List X) → length (numbered n xs) ≡ length xs
+unfolding numbered
+numbered-length n [] = refl
+numbered-length n (x ∷ xs) = ap suc (numbered-length (suc n) xs)
+
+-- over a table of at most n rows
+pub table-within : {X : Type 0} (m : ℕ) (f : Row X → ℤ) (xs : List X) (n : ℕ) → length xs ≤ n → ((r : Row X) → In r (rows xs) → Within m (f r)) → Within (n * m) (total f (rows xs))
+table-within m f xs n few h =
+    let k = total-within m f (rows xs) h in
+    let l : length (rows xs) * m ≤ n * m = mul-le-mul-right m (omega (arith, numbered-length 0 xs)) in
+    omega (arith, lin)
+
+-- over a table's first n rows, and that the sum can be taken
 pub rows-within : {X : Type 0} (m : ℕ) (f : Row X → ℤ) (xs : List X) (n : ℕ) → ((r : Row X) → Within m (f r)) → Within (n * m) (total f (rows (take n xs)))
-rows-within m f xs n h =
-    subst (λ z. Within (n * m) z) (sum-rows f xs n) (sum-within m (row-value f xs) n (λ i l. row-all (Within m) (pos 0) f 0 xs i (omega (arith, lin)) h))
+rows-within m f xs n h = table-within m f (take n xs) n (rw (length-take n xs) (min-le-left n (length xs))) (λ r i. h r)
 
 pub rows-small : {X : Type 0} (m : ℕ) (f : Row X → ℤ) (xs : List X) (n : ℕ) → m ≤ 36000000000000000 → ((r : Row X) → Within m (f r)) → Small (row-value f xs) n
 rows-small m f xs n l h i k = row-all (Within 36000000000000000) (pos 0) f 0 xs i (omega (arith, lin)) (λ r. let w = h r in omega (arith, lin))

@@ -4,10 +4,11 @@ use mathlib.Core.Path.{_≡_, refl, sym, ap, subst, _∙_}
 use mathlib.Core.Bool.{Bool, true, false}
 use mathlib.Core.List.{List, [], _∷_}
 use native.Mathlib.Omega.{arith}
+use native.Mathlib.Nat.{add-zero, zero-add}
 use lib.ListN.{length, take}
 use Rattle.std.proofs.shelf.Tests.{both-ways}
 use Rattle.measure.specs.Rows.{Row, numbered, rows, All, Stands, Holds-at, row-or, row-test}
-use Rattle.measure.proofs.Sums.{In, look, stands-row}
+use Rattle.measure.proofs.Sums.{In, look, stands-row, next-row}
 
 none-from : {X : Type 0} (f : Row X → Bool) (k : ℕ) (xs : List X) (n : ℕ) → ((i : ℕ) → i < n → row-or false f k xs i ≡ true → ⊥) → All (λ (r : Row X). f r ≡ true → ⊥) (numbered k (take n xs))
 unfolding row-or numbered All
@@ -28,25 +29,16 @@ passes-from : {X : Type 0} (f : Row X → Bool) (k : ℕ) (xs : List X) (n i : �
 unfolding row-or Stands
 passes-from f k xs zero i l e = absurd (omega arith)
 passes-from f k [] (suc n) i l e = absurd (both-ways false refl e)
-passes-from f k (x ∷ xs) (suc n) zero l e = record { item = x; stands = refl; passes = ap (λ m. f (record { item = x; row = m })) (plus-zero k) ∙ e }
-  where
-    plus-zero : (k : ℕ) → k + 0 ≡ k
-    plus-zero k = omega arith
+passes-from f k (x ∷ xs) (suc n) zero l e = record { item = x; stands = refl; passes = ap (λ m. f (record { item = x; row = m })) (add-zero k) ∙ e }
 passes-from f k (x ∷ xs) (suc n) (suc i) l e =
     let p = passes-from f (suc k) xs n i (omega arith) e in
-    record { item = p .item; stands = p .stands; passes = ap (λ m. f (record { item = p .item; row = m })) (shifted k i) ∙ p .passes }
-  where
-    shifted : (k i : ℕ) → k + suc i ≡ suc k + i
-    shifted k i = omega arith
+    record { item = p .item; stands = p .stands; passes = ap (λ m. f (record { item = p .item; row = m })) (next-row k i) ∙ p .passes }
 
 -- a row that passes
 pub row-passes : {X : Type 0} (f : Row X → Bool) (xs : List X) (n i : ℕ) → i < n → row-test f xs i ≡ true → Holds-at (λ (r : Row X). f r ≡ true) (take n xs) i
 row-passes f xs n i l e =
     let p = passes-from f 0 xs n i l e in
-    record { item = p .item; stands = p .stands; holds = ap (λ m. f (record { item = p .item; row = m })) (zero-plus i) ∙ p .passes }
-  where
-    zero-plus : (i : ℕ) → i ≡ 0 + i
-    zero-plus i = omega arith
+    record { item = p .item; stands = p .stands; holds = ap (λ m. f (record { item = p .item; row = m })) (sym (zero-add i)) ∙ p .passes }
 
 -- what follows row by row
 pub holds-so : {X : Type 0} (P Q : Row X → Type 0) (xs : List X) (i : ℕ) → ((r : Row X) → P r → Q r) → Holds-at P xs i → Holds-at Q xs i
@@ -54,10 +46,7 @@ holds-so P Q xs i f h = record { item = h .item; stands = h .stands; holds = f (
 
 -- a row of which something holds is one of the rows
 pub holds-in : {X : Type 0} (P : Row X → Type 0) (xs : List X) (i : ℕ) (h : Holds-at P xs i) → In (record { item = h .item; row = i }) (rows xs)
-holds-in P xs i h = subst (λ (n : ℕ). In (record { item = h .item; row = n }) (rows xs)) (zero-plus i) (stands-row 0 xs i (h .item) (h .stands))
-  where
-    zero-plus : (i : ℕ) → 0 + i ≡ i
-    zero-plus i = omega arith
+holds-in P xs i h = subst (λ (n : ℕ). In (record { item = h .item; row = n }) (rows xs)) (zero-add i) (stands-row 0 xs i (h .item) (h .stands))
 
 -- what holds of each row does not fail at one
 pub holds-not : {X : Type 0} (P : Row X → Type 0) (xs : List X) (i : ℕ) → All P (rows xs) → Holds-at (λ r. P r → ⊥) xs i → ⊥

@@ -1,19 +1,18 @@
 -- The walk along a cost in straight pieces.
 use mathlib.Core.Path.{_≡_, refl, sym, ap, subst, _∙_}
-use mathlib.Core.Bool.{true, false}
 use mathlib.Core.List.{List, [], _∷_}
 use mathlib.Core.Logic.{_⊎_, inl, inr, ⊎-elim}
 use native.Mathlib.Omega.{arith}
 use lib.IntN.{ℤ, pos, _+ℤ_, _-ℤ_, _*ℤ_}
 use lib.Signed.{leZ, ltZ, _≤ℤ_, _<ℤ_}
-use borrow.Author.Differences.{true-is-le, le-out}
 use Rattle.std.specs.Numbers.{minZ}
 use Rattle.std.proofs.shelf.Signed.{by-ltZ, clamps}
 use Rattle.std.proofs.shelf.Tests.{cond-both, cond-true}
 use Rattle.measure.specs.Range.{Within}
-use Rattle.stepped.specs.Piecewise.{Chain, All-within, Carried, walk, net, least-walk}
+use Rattle.measure.specs.Rows.{All}
+use Rattle.stepped.specs.Piecewise.{Chain, Carried, walk, net, least-walk}
 use Rattle.measure.proofs.Laws.{expand, lin, mul-one}
-use Rattle.measure.proofs.Order.{mul-mono, mul-nonneg, product-within, product-between}
+use Rattle.measure.proofs.Order.{mul-mono, mul-nonneg, product-within, product-between, test, at-most, under}
 use Rattle.measure.proofs.Fractions.{move-above, move-below}
 
 min-left : (x y : ℤ) → minZ x y ≤ℤ x
@@ -46,20 +45,11 @@ module _ (base p s q a b n d : ℤ) (positive : pos 1 ≤ℤ d) (low : (a *ℤ d
       (λ l. let t = from-right (omega (arith, lin)) in let u = mul-mono r (net base p s q b) d (omega (arith, lin)) k in omega (arith, lin))
       (λ l. let t = from-left l in let u = mul-mono r (net base p s q a) d (omega (arith, lin)) h in omega (arith, lin))
 
-at-most : (a b : ℤ) → leZ a b ≡ true → a ≤ℤ b
-at-most a b e = omega (arith, lin)
-
-under : (a b : ℤ) → leZ a b ≡ false → b <ℤ a
-under a b e = omega (arith, lin)
-
-test : (a b : ℤ) → a ≤ℤ b → leZ a b ≡ true
-test a b h = sym (true-is-le a b (le-out a b h))
-
 -- at its own start a walk has its base
 start-line : (base p s d : ℤ) → base *ℤ d +ℤ s *ℤ (p *ℤ d -ℤ p *ℤ d) ≡ base *ℤ d
 start-line base p s d = simp expand (omega (arith, lin))
 
-walk-start : (base p s : ℤ) (ks ts : List ℤ) (d : ℤ) → pos 1 ≤ℤ d → Chain p ks → walk base p s ks ts (p *ℤ d) d ≡ base *ℤ d
+pub walk-start : (base p s : ℤ) (ks ts : List ℤ) (d : ℤ) → pos 1 ≤ℤ d → Chain p ks → walk base p s ks ts (p *ℤ d) d ≡ base *ℤ d
 walk-start base p s [] ts d h c = start-line base p s d
 walk-start base p s (k ∷ ks) [] d h c = start-line base p s d
 walk-start base p s (k ∷ ks) (t ∷ ts) d h c =
@@ -69,7 +59,7 @@ line-end : (base p s k d : ℤ) → base *ℤ d +ℤ s *ℤ (k *ℤ d -ℤ p *�
 line-end base p s k d = simp expand (omega (arith, lin))
 
 -- from the next point on, the walk is the walk from there
-walk-next : (base p s k t : ℤ) (ks ts : List ℤ) (n d : ℤ) → pos 1 ≤ℤ d → Chain k ks → (k *ℤ d) ≤ℤ n → walk base p s (k ∷ ks) (t ∷ ts) n d ≡ walk (base +ℤ s *ℤ (k -ℤ p)) k t ks ts n d
+pub walk-next : (base p s k t : ℤ) (ks ts : List ℤ) (n d : ℤ) → pos 1 ≤ℤ d → Chain k ks → (k *ℤ d) ≤ℤ n → walk base p s (k ∷ ks) (t ∷ ts) n d ≡ walk (base +ℤ s *ℤ (k -ℤ p)) k t ks ts n d
 walk-next base p s k t ks ts n d h c l =
     cond-both (leZ n (k *ℤ d)) _ _ (λ w. w ≡ walk (base +ℤ s *ℤ (k -ℤ p)) k t ks ts n d)
     (λ e.
@@ -82,7 +72,7 @@ walk-next base p s k t ks ts n d h c l =
     (λ e. refl)
 
 -- up to the next point, it is the line
-walk-line : (base p s k t : ℤ) (ks ts : List ℤ) (n d : ℤ) → n ≤ℤ (k *ℤ d) → walk base p s (k ∷ ks) (t ∷ ts) n d ≡ base *ℤ d +ℤ s *ℤ (n -ℤ p *ℤ d)
+pub walk-line : (base p s k t : ℤ) (ks ts : List ℤ) (n d : ℤ) → n ≤ℤ (k *ℤ d) → walk base p s (k ∷ ks) (t ∷ ts) n d ≡ base *ℤ d +ℤ s *ℤ (n -ℤ p *ℤ d)
 walk-line base p s k t ks ts n d l = cond-true (leZ n (k *ℤ d)) _ _ (test n (k *ℤ d) l)
 
 net-end : (base p s q k : ℤ) → net base p s q k ≡ net (base +ℤ s *ℤ (k -ℤ p)) k s q k
@@ -203,7 +193,8 @@ line-within base p s y c w v u =
     let t = product-within 1000000 200000000 s (y -ℤ p *ℤ pos 1) v d in
     omega (arith, lin)
 
-pub walk-within : (base p s : ℤ) (ks ts : List ℤ) (y : ℤ) → Chain p ks → Carried base p → Within 100000000 p → Within 1000000 s → All-within 100000000 ks → All-within 1000000 ts → Within 100000000 y → Within 500000000000000 (walk base p s ks ts y (pos 1))
+pub walk-within : (base p s : ℤ) (ks ts : List ℤ) (y : ℤ) → Chain p ks → Carried base p → Within 100000000 p → Within 1000000 s → All (Within 100000000) ks → All (Within 1000000) ts → Within 100000000 y → Within 500000000000000 (walk base p s ks ts y (pos 1))
+unfolding All
 walk-within base p s [] ts y c b w v ws vs u = line-within base p s y b w v u
 walk-within base p s (k ∷ ks) [] y c b w v ws vs u = line-within base p s y b w v u
 walk-within base p s (k ∷ ks) (t ∷ ts) y c b w v ws vs u =

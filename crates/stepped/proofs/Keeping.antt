@@ -11,31 +11,34 @@ use lib.ListN.{take, drop}
 use Rattle.std.proofs.shelf.Tests.{and-parts, leb-true}
 use Rattle.measure.specs.Range.{Within, between}
 use Rattle.measure.specs.Fraction.{Fraction, whole, _-ᶠ_, _·ᶠ_, Between, Ceiling}
+use Rattle.measure.specs.Rows.{All}
 use Rattle.machine.specs.Meaning.{Lawful, Margin, Keeps}
 use Rattle.machine.specs.Limits.{limits-in-range}
-use Rattle.stepped.specs.Piecewise.{each-between, rising, never-falling, in-range, Ranges, Chain, All-within, Carried, Walkable, first, inner, piecewise, piecewise-whole, least-piecewise, stepped-meaning}
+use Rattle.stepped.specs.Piecewise.{each-between, rising, never-falling, in-range, Ranges, Chain, Carried, Walkable, first, inner, piecewise, piecewise-whole, least-piecewise, stepped-meaning}
 use Rattle.stepped.specs.declared.stepped.Stepped.{Stepped}
 use Rattle.measure.proofs.Laws.{expand, lin, mul-one}
-use Rattle.measure.proofs.Order.{product-within, mul-mono}
+use Rattle.measure.proofs.Order.{product-within, mul-mono, test-within}
 use Rattle.machine.proofs.Idle.{lawful-if}
-use Rattle.machine.proofs.InRange.{within, limits, limits-range, limits-whole, power-within}
-use Rattle.measure.proofs.Fractions.{den-positive, between-same, between-whole, whole-between}
+use Rattle.machine.proofs.InRange.{limits, power-within, limits-lawful}
+use Rattle.measure.proofs.Fractions.{den-positive, between-whole}
 use Rattle.stepped.proofs.Forms.{least-below, least-reached, walk-same, walk-within}
 
 -- all but the last of those that were tested
-all-prefix : (n k : ℕ) (xs : List ℤ) → each-between (negℤ (pos n)) (pos n) (take (suc k) xs) ≡ true → All-within n (take k xs)
+all-prefix : (n k : ℕ) (xs : List ℤ) → each-between (negℤ (pos n)) (pos n) (take (suc k) xs) ≡ true → All (Within n) (take k xs)
+unfolding All
 all-prefix n zero xs e = tt
 all-prefix n (suc k) [] e = tt
 all-prefix n (suc k) (x ∷ xs) e =
     let h = and-parts (between (negℤ (pos n)) (pos n) x) (each-between (negℤ (pos n)) (pos n) (take (suc k) xs)) e in
-    (within n x (h .0), all-prefix n k xs (h .1))
+    (test-within n x (h .0), all-prefix n k xs (h .1))
 
-all-tested : (n k : ℕ) (xs : List ℤ) → each-between (negℤ (pos n)) (pos n) (take k xs) ≡ true → All-within n (take k xs)
+all-tested : (n k : ℕ) (xs : List ℤ) → each-between (negℤ (pos n)) (pos n) (take k xs) ≡ true → All (Within n) (take k xs)
+unfolding All
 all-tested n zero xs e = tt
 all-tested n (suc k) [] e = tt
 all-tested n (suc k) (x ∷ xs) e =
     let h = and-parts (between (negℤ (pos n)) (pos n) x) (each-between (negℤ (pos n)) (pos n) (take k xs)) e in
-    (within n x (h .0), all-tested n k xs (h .1))
+    (test-within n x (h .0), all-tested n k xs (h .1))
 
 chain-prefix : (x : ℤ) (k : ℕ) (xs : List ℤ) → rising (x ∷ take (suc k) xs) ≡ true → Chain x (take k xs)
 chain-prefix x zero xs e = tt
@@ -46,15 +49,16 @@ chain-prefix x (suc k) (y ∷ ys) e =
 
 record Points (j : ℕ) (xs : List ℤ) : Type 0 where
   start : Within 100000000 (first xs)
-  rest : All-within 100000000 (take j (drop 1 xs))
+  rest : All (Within 100000000) (take j (drop 1 xs))
   chain : Chain (first xs) (take j (drop 1 xs))
 
 points-at : (k : ℕ) (xs : List ℤ) → each-between (negℤ (pos 100000000)) (pos 100000000) (take (suc (suc k)) xs) ≡ true → rising (take (suc (suc k)) xs) ≡ true → Points k xs
+unfolding All
 points-at zero [] e f = record { start = omega (arith, lin); rest = tt; chain = tt }
 points-at (suc k) [] e f = record { start = omega (arith, lin); rest = tt; chain = tt }
 points-at k (x ∷ xs) e f =
     let h = and-parts (between (negℤ (pos 100000000)) (pos 100000000) x) (each-between (negℤ (pos 100000000)) (pos 100000000) (take (suc k) xs)) e in
-    record { start = within 100000000 x (h .0); rest = all-prefix 100000000 k xs (h .1); chain = chain-prefix x k xs f }
+    record { start = test-within 100000000 x (h .0); rest = all-prefix 100000000 k xs (h .1); chain = chain-prefix x k xs f }
 
 points-of : (n : ℕ) (xs : List ℤ) → 2 ≤ n → each-between (negℤ (pos 100000000)) (pos 100000000) (take n xs) ≡ true → rising (take n xs) ≡ true → Points (n - 1 - 1) xs
 points-of zero xs h e f = absurd (omega arith)
@@ -63,14 +67,15 @@ points-of (suc (suc k)) xs h e f = let j : k ≡ suc (suc k) - 1 - 1 = omega ari
 
 record Slopes (j : ℕ) (xs : List ℤ) : Type 0 where
   start : Within 1000000 (first xs)
-  rest : All-within 1000000 (take j (drop 1 xs))
+  rest : All (Within 1000000) (take j (drop 1 xs))
 
 slopes-at : (k : ℕ) (xs : List ℤ) → each-between (negℤ (pos 1000000)) (pos 1000000) (take (suc k) xs) ≡ true → Slopes k xs
+unfolding All
 slopes-at zero [] e = record { start = omega (arith, lin); rest = tt }
 slopes-at (suc k) [] e = record { start = omega (arith, lin); rest = tt }
 slopes-at k (x ∷ xs) e =
     let h = and-parts (between (negℤ (pos 1000000)) (pos 1000000) x) (each-between (negℤ (pos 1000000)) (pos 1000000) (take k xs)) e in
-    record { start = within 1000000 x (h .0); rest = all-tested 1000000 k xs (h .1) }
+    record { start = test-within 1000000 x (h .0); rest = all-tested 1000000 k xs (h .1) }
 
 slopes-of : (n : ℕ) (xs : List ℤ) → 1 ≤ n → each-between (negℤ (pos 1000000)) (pos 1000000) (take n xs) ≡ true → Slopes (n - 1) xs
 slopes-of zero xs h e = absurd (omega arith)
@@ -90,7 +95,7 @@ ranges m e =
     let ss = slopes-of (m .n - 1) (m .slopes) (omega arith) (b .1) in
     record {
       limits = limits (m .bus) (m .lo .0) (m .hi .0) (g .1);
-      c = within 100000000 (m .c) (f .1);
+      c = test-within 100000000 (m .c) (f .1);
       n-low = low;
       n-high = leb-true (m .n) 8 (j .1);
       first-point = ps .start;
@@ -127,11 +132,8 @@ module _ (m : Stepped) (ok : Ranges m) where
   cost-within : (p : ℤ) → Within 100000000 p → Within 500000000000000 (piecewise-whole m p)
   cost-within p h = walk-within base (first (m .points)) (first (m .slopes)) (inner m (m .points)) (inner m (m .slopes)) p (ok .chain) carried (ok .first-point) (ok .first-slope) (ok .points) (ok .slopes) h
 
-  answer-range : (p : ℤ) → allowed (whole p) → Within 1000000000000000 (piecewise-whole m p)
-  answer-range p a =
-      let l = whole-between (m .lo .0) (m .hi .0) p a in
-      let w = cost-within p (power-within (m .lo .0) (m .hi .0) (ok .limits) p (l .0) (l .1)) in
-      omega (arith, lin, w)
+  answer-range : (p : ℤ) → Within 100000000 p → Within 1000000000000000 (piecewise-whole m p)
+  answer-range p h = omega (arith, lin, cost-within p h)
 
   reached : (q : ℤ) → (y : ℤ) × (m .lo .0 ≤ℤ y) × (y ≤ℤ m .hi .0) × (piecewise-whole m y ≡ least-piecewise m q +ℤ q *ℤ y)
   reached q = least-reached base (first (m .points)) (first (m .slopes)) (inner m (m .points)) (inner m (m .slopes)) (m .lo .0) (m .hi .0) q (ok .chain) (ok .limits .order)
@@ -157,16 +159,10 @@ module _ (m : Stepped) (ok : Ranges m) where
       omega (arith, lin, w, t, r .3)
 
   lawful : Lawful allowed (piecewise m) (piecewise-whole m) (least-piecewise m)
-  lawful = record {
-    allowed-same = between-same (m .lo .0) (m .hi .0);
-    cost-same = λ x y s a. record { cross = walk-same base (first (m .points)) (first (m .slopes)) (inner m (m .points)) (inner m (m .slopes)) (x .num) (pos (x .den)) (y .num) (pos (y .den)) (den-positive x) (den-positive y) (ok .chain) (s .cross) };
-    allowed-range = limits-range (m .lo .0) (m .hi .0) (ok .limits);
-    allowed-whole = limits-whole (m .lo .0) (m .hi .0) (ok .limits);
-    answer-is = λ p a. answer-is p;
-    answer-range = answer-range;
-    margin-is = λ q h. margin-is q;
-    margin-range = margin-range;
-  }
+  lawful =
+      limits-lawful (m .lo .0) (m .hi .0) (ok .limits) (piecewise m) (piecewise-whole m) (least-piecewise m)
+      (λ x y s. record { cross = walk-same base (first (m .points)) (first (m .slopes)) (inner m (m .points)) (inner m (m .slopes)) (x .num) (pos (x .den)) (y .num) (pos (y .den)) (den-positive x) (den-positive y) (ok .chain) (s .cross) })
+      answer-is answer-range margin-is margin-range
 
 -- a row in range can be walked along
 pub walkable : (m : Stepped) → Ranges m → Walkable (pos 1000000 *ℤ m .c) (first (m .points)) (first (m .slopes)) (inner m (m .points)) (inner m (m .slopes))

@@ -3,3 +3,4 @@ pub mod Keeping
 pub mod Sizes
 pub mod Slices
 pub mod RowTest
+pub mod StepLaw

@@ -6,16 +6,14 @@ use mathlib.Core.List.{List, [], _∷_}
 use native.Mathlib.Omega.{arith}
 use lib.IntN.{ℤ, pos, _+ℤ_, _-ℤ_, _*ℤ_}
 use lib.Signed.{leZ, ltZ}
-use lib.ListN.{length, getD, take, drop}
+use lib.ListN.{length, take, drop}
 use lib.Seq.{take-all}
 use Rattle.std.specs.Numbers.{minZ}
 use Rattle.measure.specs.Range.{Within, between}
-use Rattle.stepped.specs.Piecewise.{each-between, rising, never-falling, Walkable, walk, net, least-walk}
+use Rattle.measure.specs.Rows.{All}
+use Rattle.stepped.specs.Piecewise.{each-between, rising, never-falling, first, Walkable, walk, net, least-walk}
 use Rattle.measure.proofs.Laws.{mul-one}
 use Rattle.stepped.proofs.Forms.{carried-next}
-
-abbrev pub head : List ℤ → ℤ
-head xs = getD xs 0 (pos 0)
 
 abbrev pub tail : List ℤ → List ℤ
 tail xs = take (length xs - 1) (drop 1 xs)
@@ -31,7 +29,7 @@ module _ (a b : ℤ) where
   each-none [] h = refl
   each-none (x ∷ xs) h = absurd (omega arith)
 
-  pub each-more : (xs : List ℤ) → 0 < length xs → each-between a b xs ≡ (between a b (head xs) && each-between a b (tail xs))
+  pub each-more : (xs : List ℤ) → 0 < length xs → each-between a b xs ≡ (between a b (first xs) && each-between a b (tail xs))
   each-more [] h = absurd (omega arith)
   each-more (x ∷ xs) h = ap (λ ys. between a b x && each-between a b ys) (tail-is x xs)
 
@@ -44,10 +42,10 @@ rising-one [] h k = refl
 rising-one (x ∷ []) h k = refl
 rising-one (x ∷ (y ∷ ys)) h k = absurd (omega (arith, ap length (tail-is x (y ∷ ys))))
 
-pub rising-more : (xs : List ℤ) → 0 < length xs → 0 < length (tail xs) → rising xs ≡ (ltZ (head xs) (head (tail xs)) && rising (tail xs))
+pub rising-more : (xs : List ℤ) → 0 < length xs → 0 < length (tail xs) → rising xs ≡ (ltZ (first xs) (first (tail xs)) && rising (tail xs))
 rising-more [] h k = absurd (omega arith)
 rising-more (x ∷ []) h k = absurd (omega (arith, ap length (tail-is x [])))
-rising-more (x ∷ (y ∷ ys)) h k = ap (λ zs. ltZ x (head zs) && rising zs) (tail-is x (y ∷ ys))
+rising-more (x ∷ (y ∷ ys)) h k = ap (λ zs. ltZ x (first zs) && rising zs) (tail-is x (y ∷ ys))
 
 pub falling-none : (xs : List ℤ) → length xs ≡ 0 → true ≡ never-falling xs
 falling-none [] h = refl
@@ -58,10 +56,10 @@ falling-one [] h k = refl
 falling-one (x ∷ []) h k = refl
 falling-one (x ∷ (y ∷ ys)) h k = absurd (omega (arith, ap length (tail-is x (y ∷ ys))))
 
-pub falling-more : (xs : List ℤ) → 0 < length xs → 0 < length (tail xs) → never-falling xs ≡ (leZ (head xs) (head (tail xs)) && never-falling (tail xs))
+pub falling-more : (xs : List ℤ) → 0 < length xs → 0 < length (tail xs) → never-falling xs ≡ (leZ (first xs) (first (tail xs)) && never-falling (tail xs))
 falling-more [] h k = absurd (omega arith)
 falling-more (x ∷ []) h k = absurd (omega (arith, ap length (tail-is x [])))
-falling-more (x ∷ (y ∷ ys)) h k = ap (λ zs. leZ x (head zs) && never-falling zs) (tail-is x (y ∷ ys))
+falling-more (x ∷ (y ∷ ys)) h k = ap (λ zs. leZ x (first zs) && never-falling zs) (tail-is x (y ∷ ys))
 
 module _ (base p s n d : ℤ) where
   abbrev line : ℤ
@@ -76,14 +74,15 @@ module _ (base p s n d : ℤ) where
   walk-no-slope (k ∷ ks) [] h g = refl
   walk-no-slope (k ∷ ks) (t ∷ ts) h g = absurd (omega arith)
 
-  pub walk-more : (ks ts : List ℤ) → 0 < length ks → 0 < length ts → walk base p s ks ts n d ≡ cond (leZ n (head ks *ℤ d)) line (walk (base +ℤ s *ℤ (head ks -ℤ p)) (head ks) (head ts) (tail ks) (tail ts) n d)
+  pub walk-more : (ks ts : List ℤ) → 0 < length ks → 0 < length ts → walk base p s ks ts n d ≡ cond (leZ n (first ks *ℤ d)) line (walk (base +ℤ s *ℤ (first ks -ℤ p)) (first ks) (first ts) (tail ks) (tail ts) n d)
   walk-more [] ts h g = absurd (omega arith)
   walk-more (k ∷ ks) [] h g = absurd (omega arith)
   walk-more (k ∷ ks) (t ∷ ts) h g =
       ap (λ xs. cond (leZ n (k *ℤ d)) line (walk (base +ℤ s *ℤ (k -ℤ p)) k t xs ts n d)) (tail-is k ks)
       ∙ ap (λ ys. cond (leZ n (k *ℤ d)) line (walk (base +ℤ s *ℤ (k -ℤ p)) k t (tail (k ∷ ks)) ys n d)) (tail-is t ts)
 
-pub walkable-next : (base p s : ℤ) (ks ts : List ℤ) → Walkable base p s ks ts → 0 < length ks → 0 < length ts → Within 100000000 (head ks) × Walkable (base +ℤ s *ℤ (head ks -ℤ p)) (head ks) (head ts) (tail ks) (tail ts)
+pub walkable-next : (base p s : ℤ) (ks ts : List ℤ) → Walkable base p s ks ts → 0 < length ks → 0 < length ts → Within 100000000 (first ks) × Walkable (base +ℤ s *ℤ (first ks -ℤ p)) (first ks) (first ts) (tail ks) (tail ts)
+unfolding All
 walkable-next base p s [] ts w h g = absurd (omega arith)
 walkable-next base p s (k ∷ ks) [] w h g = absurd (omega arith)
 walkable-next base p s (k ∷ ks) (t ∷ ts) w h g =
@@ -112,7 +111,7 @@ module _ (base p s a b q : ℤ) where
   least-no-slope (k ∷ ks) [] h g = refl
   least-no-slope (k ∷ ks) (t ∷ ts) h g = absurd (omega arith)
 
-  pub least-more : (ks ts : List ℤ) → 0 < length ks → 0 < length ts → least-walk base p s ks ts a b q ≡ cond (leZ b (head ks)) ends (cond (leZ (head ks) a) (least-walk (base +ℤ s *ℤ (head ks -ℤ p)) (head ks) (head ts) (tail ks) (tail ts) a b q) (minZ (net base p s q a) (least-walk (base +ℤ s *ℤ (head ks -ℤ p)) (head ks) (head ts) (tail ks) (tail ts) (head ks) b q)))
+  pub least-more : (ks ts : List ℤ) → 0 < length ks → 0 < length ts → least-walk base p s ks ts a b q ≡ cond (leZ b (first ks)) ends (cond (leZ (first ks) a) (least-walk (base +ℤ s *ℤ (first ks -ℤ p)) (first ks) (first ts) (tail ks) (tail ts) a b q) (minZ (net base p s q a) (least-walk (base +ℤ s *ℤ (first ks -ℤ p)) (first ks) (first ts) (tail ks) (tail ts) (first ks) b q)))
   least-more [] ts h g = absurd (omega arith)
   least-more (k ∷ ks) [] h g = absurd (omega arith)
   least-more (k ∷ ks) (t ∷ ts) h g =

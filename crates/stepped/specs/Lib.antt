@@ -1,1 +1,2 @@
 pub mod Piecewise
+pub mod StepLaw

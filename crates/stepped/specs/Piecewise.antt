@@ -1,6 +1,6 @@
 -- A machine whose cost is a line in pieces: 1,000,000 c at the first point, from there on by the slope between two neighbouring points,
 -- with the first and the last slope going on outside. So the slope changes only at the points between the first and the last.
-use Prim.Native.Nat.{ℕ, _-_, _≤_}
+use Prim.Native.Nat.{_-_, _≤_}
 use mathlib.Core.Bool.{Bool, true, _&&_, cond}
 use mathlib.Core.List.{List, [], _∷_}
 use lib.Dec.{leb}
@@ -10,6 +10,7 @@ use lib.ListN.{getD, take, drop}
 use Rattle.std.specs.Numbers.{minZ}
 use Rattle.measure.specs.Range.{Within, between}
 use Rattle.measure.specs.Fraction.{Fraction, Between}
+use Rattle.measure.specs.Rows.{All}
 use Rattle.machine.specs.Meaning.{Meaning}
 use Rattle.machine.specs.Idle.{allowed-if, cost-if, answer-if}
 use Rattle.machine.specs.Limits.{limits-in-range, Limits}
@@ -49,11 +50,6 @@ abbrev pub Chain : ℤ → List ℤ → Type 0
 Chain p [] = Unit {0}
 Chain p (k ∷ ks) = (p <ℤ k) × Chain k ks
 
--- each number lies within ±n
-abbrev pub All-within : ℕ → List ℤ → Type 0
-All-within n [] = Unit {0}
-All-within n (x ∷ xs) = Within n x × All-within n xs
-
 -- how large the cost at the point p can be: it moves by at most 1,000,000 a watt
 abbrev pub Carried : ℤ → ℤ → Type 0
 Carried base p = (negℤ (pos 200000000000000 +ℤ p *ℤ pos 1000000) ≤ℤ base) × (base ≤ℤ (pos 200000000000000 +ℤ p *ℤ pos 1000000))
@@ -69,8 +65,8 @@ pub record Walkable (base p s : ℤ) (ks ts : List ℤ) : Type 0 where
   pub carried : Carried base p
   pub point : Within 100000000 p
   pub slope : Within 1000000 s
-  pub points : All-within 100000000 ks
-  pub slopes : All-within 1000000 ts
+  pub points : All (Within 100000000) ks
+  pub slopes : All (Within 1000000) ts
   pub chain : Chain p ks
 
 -- cost - q × power at the whole power y, on the line through `base` at p
@@ -101,8 +97,8 @@ pub record Ranges (m : Stepped) : Type 0 where
   pub n-high : m .n ≤ 8
   pub first-point : Within 100000000 (first (m .points))
   pub first-slope : Within 1000000 (first (m .slopes))
-  pub points : All-within 100000000 (inner m (m .points))
-  pub slopes : All-within 1000000 (inner m (m .slopes))
+  pub points : All (Within 100000000) (inner m (m .points))
+  pub slopes : All (Within 1000000) (inner m (m .slopes))
   pub chain : Chain (first (m .points)) (inner m (m .points))
 
 -- the true cost at power x

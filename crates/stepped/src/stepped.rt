@@ -1,7 +1,9 @@
 // A machine with a cost in straight pieces.
 ghost use mathlib.Core.Path.{_≡_};
+ghost use mathlib.Core.Bool.{true};
 ghost use Rattle.measure.specs.Range.{Within};
 ghost use Rattle.stepped.specs.Piecewise.{in-range, Ranges, piecewise-whole, least-piecewise, stepped-meaning};
+ghost use Rattle.stepped.specs.StepLaw.{One-cost};
 use crate::piecewise::all_between;
 use crate::piecewise::cost_along;
 use crate::piecewise::is_never_falling;
@@ -31,9 +33,10 @@ pub struct Stepped {
 }
 
 impl Stepped {
-    // Whether the row keeps its ranges and orders.
+    // Whether the row keeps its ranges and orders. Where it does, its points and slopes tell one cost, and that is its true cost.
     pub fn is_in_range(&self) -> bool
-        ensures { λ r. ⌜ r ≡ in-range (now (self .entry)) ⌝ }
+        ensures test { λ r. ⌜ r ≡ in-range (now (self .entry)) ⌝ }
+        ensures cost { λ r. ⌜ (r ≡ true → One-cost (now (self .entry))) ⌝ }
     {
         if self.n < 2 || self.n > 8 {
             return false;

@@ -7,7 +7,8 @@ use Rattle.std.proofs.shelf.Signed.{toZ-ofZ}
 use Rattle.measure.specs.Fraction.{whole, _≤ᶠ_}
 use Rattle.measure.specs.Rows.{Row}
 use Rattle.machine.specs.Group.{counted-cost, true-cost-of}
-use Rattle.machine.proofs.Totals.{total-more, all-more, read-stands, total-none, all-none, true-below-counted}
+use Rattle.measure.proofs.Sums.{stands-read}
+use Rattle.machine.proofs.Totals.{total-more, all-more, total-none, all-none, true-below-counted}
 use Rattle.machine.proofs.group.total_cost.Needs as need
 
 pub returns-in-rest : need.returns-in-rest
@@ -15,7 +16,7 @@ returns-in-rest g c =
     let f = subst (SFits w64) (c .at .ensures) (record { sfits = c .at .ok }) in
     record {
       item = c .index-machines-i .result;
-      stands = read-stands (c .args .machines .now) (c .loop-i .i) (c .index-machines-i .result) (c .loop-i-test .taken) (c .index-machines-i .is);
+      stands = stands-read (c .args .machines .now) (c .loop-i .i) (c .index-machines-i .result) (c .loop-i-test .taken) (c .index-machines-i .is);
       holds = simp (toZ-ofZ, f, c .at .ensures) at (c .in-rest .ensures tt);
     }
 

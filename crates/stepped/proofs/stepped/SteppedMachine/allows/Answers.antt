@@ -13,7 +13,7 @@ use Rattle.stepped.proofs.stepped.SteppedMachine.allows.Needs as need
 pub returns-then-is-in-range : need.returns-then-is-in-range
 returns-then-is-in-range c =
     let m = c .args .self .now in
-    let t = sym (c .if-is-in-range .ensures tt) in
+    let t = sym (c .if-is-in-range .ensures tt .test) in
     let k = ranges m t in
     let f : SFits w64 (c .args .p .0) = search needs in
     decides-between (in-range m) (m .lo .0) (m .hi .0) (c .args .p .0) (c .is-between .result) t

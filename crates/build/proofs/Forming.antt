@@ -89,7 +89,7 @@ module _ {M N : Type 0} (𝓜 : Meaning M) (𝓝 : Meaning N) (o : Rows M N) (be
       let same = one-name (r .0 .name .from) (r .0 .name .to) (b .ends .from) (b .ends .to) (r .2 .from .0) (r .2 .to .0) e in
       branches-known 𝓜 𝓝 o (l .accepted .known) i (record { item = r .0; stands = r .1; holds = inr (inr same) })
 
-  pub well-formed : Well-formed 𝓜 𝓝 (laid-case 𝓜 𝓝 o after n)
+  pub well-formed : Well-formed 𝓜 𝓝 (laid-case o after n)
   well-formed =
       let buses = filled-length Bus-of (now (o .buses)) (before .buses) (after .buses) (n .buses) (l .counted .buses) (l .buses) in
       let branches = filled-length (Joined (now (o .buses))) (now (o .branches)) (before .branches) (after .branches) (n .branches) (l .counted .branches) (l .branches) in

@@ -49,6 +49,17 @@ lent b f s l = record { buses = b; first = f; second = s; branches = l }
 abbrev pub room-of : Lent → Room
 room-of l = record { buses = length (l .buses); first = length (l .first); second = length (l .second); branches = length (l .branches) }
 
+-- the case that the tables then hold
+abbrev pub laid-case : {M N : Type 0} → Rows M N → Lent → Counts → Case M N
+laid-case o l n =
+    record {
+      tolerance = o .tolerance .0;
+      buses = take (n .buses) (l .buses);
+      first = record { machines = take (n .first) (now (o .first)); place = λ i. getD (l .first) i 0 };
+      second = record { machines = take (n .second) (now (o .second)); place = λ i. getD (l .second) i 0 };
+      branches = take (n .branches) (l .branches);
+    }
+
 -- row i is the one row whose bus has the name
 pub record The-row (buses : List Bus) (name i : ℕ) : Type 0 where
   pub has : Holds-at (Has-name _≡_ (λ b. b .name) name) buses i
@@ -68,17 +79,6 @@ module _ {M N : Type 0} (𝓜 : Meaning M) (𝓝 : Meaning N) where
   pub record Not-laid (o : Rows M N) (before after : Lent) (e : Refusal) : Type 0 where
     pub refused : Refused 𝓜 𝓝 o (room-of before) e
     pub untouched : after ≡ before
-
-  -- the case that the tables then hold
-  abbrev pub laid-case : Rows M N → Lent → Counts → Case M N
-  laid-case o l n =
-      record {
-        tolerance = o .tolerance .0;
-        buses = take (n .buses) (l .buses);
-        first = record { machines = take (n .first) (now (o .first)); place = λ i. getD (l .first) i 0 };
-        second = record { machines = take (n .second) (now (o .second)); place = λ i. getD (l .second) i 0 };
-        branches = take (n .branches) (l .branches);
-      }
 
   -- the tolerance and the sizes keep their limits, names are distinct, and every place and every end is the row of the bus that is named
   pub record Well-formed (c : Case M N) : Type 0 where

@@ -27,7 +27,7 @@ pub fn lay<M: Machine, N: Machine>(
     branches: &mut [Branch],
 ) -> Result<Counts, Refusal>
     ensures laid { λ r. ⌜ Cases r (λ n. Laid (M·Machine .meaning) (N·Machine .meaning) (now (rows .entry)) (lent (now (buses .entry)) (now (first .entry)) (now (second .entry)) (now (branches .entry))) (lent (now (buses .exit)) (now (first .exit)) (now (second .exit)) (now (branches .exit))) n) (λ e. Not-laid (M·Machine .meaning) (N·Machine .meaning) (now (rows .entry)) (lent (now (buses .entry)) (now (first .entry)) (now (second .entry)) (now (branches .entry))) (lent (now (buses .exit)) (now (first .exit)) (now (second .exit)) (now (branches .exit))) e) ⌝ }
-    ensures formed { λ r. ⌜ made r (λ n. Well-formed (M·Machine .meaning) (N·Machine .meaning) (laid-case (M·Machine .meaning) (N·Machine .meaning) (now (rows .entry)) (lent (now (buses .exit)) (now (first .exit)) (now (second .exit)) (now (branches .exit))) n)) ⌝ }
+    ensures formed { λ r. ⌜ made r (λ n. Well-formed (M·Machine .meaning) (N·Machine .meaning) (laid-case (now (rows .entry)) (lent (now (buses .exit)) (now (first .exit)) (now (second .exit)) (now (branches .exit))) n)) ⌝ }
 {
     let room = Room {
         buses: buses.len(),

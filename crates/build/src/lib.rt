@@ -6,3 +6,4 @@ mod places;
 pub mod rows;
 mod size;
 pub mod tables;
+pub mod view;

@@ -10,7 +10,8 @@ use lib.Signed.{_≤ℤ_, _<ℤ_, leZ}
 use Rattle.std.proofs.shelf.Signed.{by-ltZ}
 use Rattle.std.proofs.shelf.Tests.{and-parts, and-from, cond-true, cond-both}
 use borrow.Author.Differences.{true-is-le, le-out}
-use mathlib.Core.Bool.{true, false}
+use mathlib.Core.Bool.{Bool, true, false}
+use Rattle.measure.specs.Rows.{only}
 use Rattle.measure.specs.Range.{Within, between, kept, ∣_∣}
 use Rattle.measure.proofs.Laws.{expand, lin, neg-mul, mul-neg}
 use Rattle.measure.proofs.Ring.{ring, Expr, eval, norm, allZero, sub}
@@ -140,3 +141,8 @@ at-most a b e = omega (arith, lin)
 
 pub under : (a b : ℤ) → leZ a b ≡ false → b <ℤ a
 under a b e = omega (arith, lin)
+
+-- a number or nothing
+pub only-within : (n : ℕ) (t : Bool) (z : ℤ) → Within n z → Within n (only t z)
+only-within n true z h = h
+only-within n false z h = omega (arith, lin)

@@ -300,3 +300,10 @@ rows-from n (y ∷ xs) x (there k) = let s = rows-from (suc n) xs x k in (s .0, 
 
 pub in-rows : {X : Type 0} (xs : List X) (x : X) → In x xs → (i : ℕ) × In (record { item = x; row = i }) (rows xs)
 in-rows xs x k = rows-from 0 xs x k
+
+-- a sum over at most 255 rows
+pub few-within : {X : Type 0} (m : ℕ) (f : Row X → ℤ) (xs : List X) (n : ℕ) → n ≤ 255 → ((r : Row X) → Within m (f r)) → Within (255 * m) (total f (rows (take n xs)))
+few-within m f xs n l h =
+    let w = rows-within m f xs n h in
+    let k = mul-le-mul-right m l in
+    (omega (arith, lin, w .0, k), omega (arith, lin, w .1, k))

@@ -7,13 +7,5 @@ pub mod Flows
 pub mod Duality
 pub mod Counted
 pub mod Nodal
-pub mod Whole
-pub mod Judging
 pub mod Used
-pub mod Verdicts
-pub mod Findings
 pub mod Pinned
-pub mod Kept
-pub mod RowLimits
-pub mod PriceLists
-pub mod Exact

@@ -1,12 +1,9 @@
 pub mod Ranges
 pub mod Model
-pub mod Whole
 pub mod View
 pub mod Floor
 pub mod Nodal
 pub mod Theorems
 pub mod Refusals
 pub mod Judged
-pub mod Judging
-pub mod Kept
 pub mod Floored

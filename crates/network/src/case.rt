@@ -5,6 +5,11 @@ ghost use lib.ListN.{getD, length, take};
 use crate::branch::Branch;
 use crate::bus::Bus;
 
+// Every power lies within ± this many watts, and every angle within ± this many microradians.
+pub const POWER_LIMIT: i64 = 100_000_000;
+
+pub const ANGLE_LIMIT: i64 = 3_200_000;
+
 // Machines of one kind: a table, of which the first rows are the case's, and the row of each one's bus.
 #[derive_where(Clone, Copy)]
 pub struct Machines<'a, M> {
@@ -15,7 +20,7 @@ pub struct Machines<'a, M> {
 
 impl<'a, M> Machines<'a, M> {
     // The case's machines.
-    pub(crate) fn used(&self) -> &'a [M]
+    pub fn used(&self) -> &'a [M]
         ensures exact { λ r. ⌜ now r ≡ take (now (self .entry) .count) (now (now (self .entry) .rows)) ⌝ }
         ensures few { λ r. ⌜ length (now r) ≤ 255 ⌝ }
     {
@@ -23,7 +28,7 @@ impl<'a, M> Machines<'a, M> {
     }
 
     // The row of the bus of the machine in that row.
-    pub(crate) fn place(&self, row: usize) -> u8
+    pub fn place(&self, row: usize) -> u8
         ensures { λ r. ⌜ r ≡ getD (now (now (self .entry) .places)) row 0 ⌝ }
     {
         if row < self.places.len() {
@@ -47,7 +52,7 @@ pub struct Case<'a, M, N> {
 }
 
 // How many rows the case has of a table.
-pub(crate) fn rows_used<T>(table: &[T], count: u8) -> u8
+pub fn rows_used<T>(table: &[T], count: u8) -> u8
     ensures { λ r. ⌜ r ≡ length (take count (now (table .entry))) ⌝ }
 {
     if table.len() < count as usize {
@@ -58,7 +63,7 @@ pub(crate) fn rows_used<T>(table: &[T], count: u8) -> u8
 }
 
 // The rows that the case has of a table.
-pub(crate) fn first_rows<T>(table: &[T], count: u8) -> &[T]
+pub fn first_rows<T>(table: &[T], count: u8) -> &[T]
     ensures { λ r. ⌜ now r ≡ take count (now (table .entry)) ⌝ }
 {
     if table.len() < count as usize {

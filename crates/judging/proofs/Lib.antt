@@ -1,0 +1,4 @@
+pub mod Findings
+pub mod Judging
+pub mod Verdicts
+pub mod Whole

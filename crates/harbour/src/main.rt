@@ -5,6 +5,7 @@ mod tables;
 use crate::report::floor_all;
 use crate::report::judge_all;
 use crate::report::refused;
+use crate::report::try_without;
 use crate::tables::BRANCHES;
 use crate::tables::BUSES;
 use crate::tables::CURVED;
@@ -22,6 +23,7 @@ use network::branch::Ends;
 use network::bus::Bus;
 use network::case::Case;
 use network::case::Machines;
+use pricing::outage::Stations;
 use std::io;
 use stepped::stepped::Stepped;
 use stepped::stepped::SteppedMachine;
@@ -54,6 +56,36 @@ fn standing<'a>(
         first,
         second,
         branches,
+        nl: counts.branches,
+    }
+}
+
+// The case that the tables hold, but for its branches.
+fn around<'a>(
+    tolerance: u32,
+    counts: Counts,
+    buses: &'a [Bus],
+    stepped: &'a [Stepped],
+    first: &'a [u8],
+    curved: &'a [Curved],
+    second: &'a [u8],
+) -> Stations<'a, Stepped, Curved> {
+    let first = Machines {
+        rows: stepped,
+        places: first,
+        count: counts.first,
+    };
+    let second = Machines {
+        rows: curved,
+        places: second,
+        count: counts.second,
+    };
+    Stations {
+        tolerance,
+        buses,
+        nb: counts.buses,
+        first,
+        second,
         nl: counts.branches,
     }
 }
@@ -104,7 +136,17 @@ fn run(rt: &LibcRuntime, tolerance: u32) -> io::Result<()> {
                 &branches,
             );
             judge_all(rt, &case)?;
-            floor_all(rt, &case)
+            floor_all(rt, &case)?;
+            let stations = around(
+                tolerance,
+                counts,
+                &buses,
+                &stepped,
+                &first,
+                &curved,
+                &second,
+            );
+            try_without(rt, stations, &mut branches)
         }
     }
 }

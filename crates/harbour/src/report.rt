@@ -1,15 +1,22 @@
 // What becomes of each dispatch and each price list, in lines.
+use crate::tables::LINE;
 use crate::tables::LISTS;
 use crate::tables::OFFERS;
+use crate::tables::TRIAL;
 use curved::curved::Curved;
 use curved::curved::CurvedMachine;
+use judging::judge::judge;
 use measure::Grains;
 use measure::column::Table;
 use measure::column::TableColumn;
+use network::branch::Branch;
 use network::case::Case;
 use network::dispatch::Dispatch;
 use network::prices::Prices;
 use network::refusal::Refusal;
+use pricing::floor::floor;
+use pricing::outage::Stations;
+use pricing::outage::floor_without;
 use std::io;
 use stepped::stepped::Stepped;
 use stepped::stepped::SteppedMachine;
@@ -36,7 +43,7 @@ fn judged<'t>(
         second,
         angles,
     };
-    case.judge(&dispatch)
+    judge(case, &dispatch)
 }
 
 // The floor of a price list of three tables.
@@ -54,7 +61,26 @@ fn floored<'t>(
         congestion,
         angle,
     };
-    case.floor(&prices)
+    floor(case, &prices)
+}
+
+// The floor of a price list of three tables, without the harbour's branch.
+fn floored_without<'t>(
+    stations: Stations<Stepped, Curved>,
+    branches: &mut [Branch],
+    bus: &'t [i64],
+    congestion: &'t [i64],
+    angle: &'t [i64],
+) -> Result<Grains, Refusal> {
+    let bus = Table { values: bus };
+    let congestion = Table { values: congestion };
+    let angle = Table { values: angle };
+    let prices = Prices {
+        bus,
+        congestion,
+        angle,
+    };
+    floor_without(stations, branches, LINE, &prices)
 }
 
 // The figure, or the refusal by its number and place.
@@ -91,4 +117,22 @@ pub fn judge_all(rt: &LibcRuntime, case: &Case<Stepped, Curved>) -> io::Result<(
         answer(rt, "cost", judged(case, &[p], &[q], &[a]))?;
     }
     Ok(())
+}
+
+// The floor of the price list that is tried without the branch.
+pub fn try_without(
+    rt: &LibcRuntime,
+    stations: Stations<Stepped, Curved>,
+    branches: &mut [Branch],
+) -> io::Result<()> {
+    let p = TRIAL.first;
+    let q = TRIAL.second;
+    let c = TRIAL.congestion;
+    let a = TRIAL.angle;
+    println!(rt, "prices {p} {q} {c} {a} without the branch")?;
+    answer(
+        rt,
+        "floor",
+        floored_without(stations, branches, &[p, q], &[c], &[a]),
+    )
 }

@@ -1,4 +1,3 @@
--- t
 use Rattle.std.proofs.shelf.Results.{err-from-errBy}
 use Rattle.build.proofs.Known.{unknown-refused}
 use Rattle.build.proofs.check.check.Needs as need

@@ -30,7 +30,7 @@ fn rounded_down(millionths: i64) -> i64
 }
 
 // The cost at p, rounded up.
-pub fn cost_up(c0: i64, c1: i64, c2: i64, p: i64) -> i64
+pub(crate) fn cost_up(c0: i64, c1: i64, c2: i64, p: i64) -> i64
     requires fixed { ⌜ Within 100000000 c0 ⌝ }
     requires slope { ⌜ Within 1000000 c1 ⌝ }
     requires coefficient { ⌜ Within 500 c2 ⌝ }
@@ -42,7 +42,7 @@ pub fn cost_up(c0: i64, c1: i64, c2: i64, p: i64) -> i64
 }
 
 // The cost less (b + c1) p at p, rounded down.
-pub fn margin_down(c0: i64, b: i64, c2: i64, p: i64) -> i64
+pub(crate) fn margin_down(c0: i64, b: i64, c2: i64, p: i64) -> i64
     requires fixed { ⌜ Within 100000000 c0 ⌝ }
     requires slope { ⌜ Within 2000000 b ⌝ }
     requires coefficient { ⌜ Within 500 c2 ⌝ }
@@ -54,7 +54,7 @@ pub fn margin_down(c0: i64, b: i64, c2: i64, p: i64) -> i64
 }
 
 // The same at the power where it is least.
-pub fn vertex_down(c0: i64, b: i64, c2: i64) -> i64
+pub(crate) fn vertex_down(c0: i64, b: i64, c2: i64) -> i64
     requires fixed { ⌜ Within 100000000 c0 ⌝ }
     requires slope { ⌜ Within 2000000 b ⌝ }
     requires convex { ⌜ pos 1 ≤ℤ c2 ⌝ }

@@ -22,7 +22,7 @@ use stepped::stepped::Stepped;
 use stepped::stepped::SteppedMachine;
 
 // A refusal, by its number and place.
-pub fn refused(rt: &LibcRuntime, refusal: Refusal) -> io::Result<()> {
+pub(crate) fn refused(rt: &LibcRuntime, refusal: Refusal) -> io::Result<()> {
     let number = refusal.number();
     let place = refusal.place();
     println!(rt, "  refused {number} at row {place}")
@@ -95,7 +95,7 @@ fn answer(rt: &LibcRuntime, what: &str, answer: Result<Grains, Refusal>) -> io::
 }
 
 // The floor of each price list.
-pub fn floor_all(rt: &LibcRuntime, case: &Case<Stepped, Curved>) -> io::Result<()> {
+pub(crate) fn floor_all(rt: &LibcRuntime, case: &Case<Stepped, Curved>) -> io::Result<()> {
     for list in LISTS.iter() {
         let p = list.first;
         let q = list.second;
@@ -108,7 +108,7 @@ pub fn floor_all(rt: &LibcRuntime, case: &Case<Stepped, Curved>) -> io::Result<(
 }
 
 // Judges each dispatch.
-pub fn judge_all(rt: &LibcRuntime, case: &Case<Stepped, Curved>) -> io::Result<()> {
+pub(crate) fn judge_all(rt: &LibcRuntime, case: &Case<Stepped, Curved>) -> io::Result<()> {
     for offer in OFFERS.iter() {
         let p = offer.first;
         let q = offer.second;
@@ -120,7 +120,7 @@ pub fn judge_all(rt: &LibcRuntime, case: &Case<Stepped, Curved>) -> io::Result<(
 }
 
 // The floor of the price list that is tried without the branch.
-pub fn try_without(
+pub(crate) fn try_without(
     rt: &LibcRuntime,
     stations: Stations<Stepped, Curved>,
     branches: &mut [Branch],

@@ -12,7 +12,7 @@ pub struct AtPower(pub i64, pub Option<i64>);
 #[derive(Clone, Copy)]
 pub struct AtPrice(pub i64, pub i64);
 
-pub fn check_costs<M: Machine>(machine: &M, table: &[AtPower]) -> Result<(), Fail> {
+pub(crate) fn check_costs<M: Machine>(machine: &M, table: &[AtPower]) -> Result<(), Fail> {
     for row in table {
         let AtPower(power, expected) = *row;
         let cost = match machine.cost(Watts(power)) {
@@ -25,7 +25,7 @@ pub fn check_costs<M: Machine>(machine: &M, table: &[AtPower]) -> Result<(), Fai
     Ok(())
 }
 
-pub fn check_margins<M: Machine>(machine: &M, table: &[AtPrice]) -> Result<(), Fail> {
+pub(crate) fn check_margins<M: Machine>(machine: &M, table: &[AtPrice]) -> Result<(), Fail> {
     for row in table {
         let AtPrice(price, expected) = *row;
         let Some(price) = Price::new(price) else {
@@ -37,7 +37,7 @@ pub fn check_margins<M: Machine>(machine: &M, table: &[AtPrice]) -> Result<(), F
 }
 
 // Each machine allows only 0 W, at cost 0.
-pub fn check_idle<M: Machine>(machines: &[M]) -> Result<(), Fail> {
+pub(crate) fn check_idle<M: Machine>(machines: &[M]) -> Result<(), Fail> {
     for machine in machines {
         check_costs(
             machine,

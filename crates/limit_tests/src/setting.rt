@@ -23,7 +23,7 @@ pub enum Answer {
 }
 
 impl Answer {
-    pub fn of(result: Result<Grains, Refusal>) -> Self {
+    pub(crate) fn of(result: Result<Grains, Refusal>) -> Self {
         match result {
             Ok(figure) => Answer::Figure(figure.0),
             Err(refusal) => Answer::Refused(refusal.number(), refusal.place()),
@@ -176,7 +176,7 @@ pub struct Tables {
 
 impl Setting {
     // The case with that line alone.
-    pub fn with_line(self, line: Line) -> Setting {
+    pub(crate) fn with_line(self, line: Line) -> Setting {
         Setting {
             lines: [line, LINE],
             nl: 1,
@@ -185,7 +185,7 @@ impl Setting {
     }
 
     // The case with these two lines.
-    pub fn with_two_lines(self, first: Line, second: Line) -> Setting {
+    pub(crate) fn with_two_lines(self, first: Line, second: Line) -> Setting {
         Setting {
             lines: [first, second],
             nl: 2,
@@ -193,7 +193,7 @@ impl Setting {
         }
     }
 
-    pub fn tables(&self) -> Result<Tables, Fail> {
+    pub(crate) fn tables(&self) -> Result<Tables, Fail> {
         let [one, two, three] = self.demands;
         let [line, other] = self.lines;
         Ok(Tables {
@@ -207,7 +207,7 @@ impl Setting {
     }
 
     // The case in its tables.
-    pub fn case<'a>(&self, tables: &'a Tables) -> Case<'a, Stepped, Curved> {
+    pub(crate) fn case<'a>(&self, tables: &'a Tables) -> Case<'a, Stepped, Curved> {
         let first = Machines {
             rows: &tables.stepped,
             places: &tables.first,

@@ -6,7 +6,7 @@ ghost use Rattle.stepped.specs.Piecewise.{each-between, rising, never-falling,
 use measure::range::is_between;
 
 // Whether each number lies between low and high.
-pub fn all_between(low: i64, high: i64, xs: &[i64]) -> bool
+pub(crate) fn all_between(low: i64, high: i64, xs: &[i64]) -> bool
     ensures { λ r. ⌜ r ≡ each-between low high (now (xs .entry)) ⌝ }
 {
     let [x, rest @ ..] = xs else {
@@ -16,7 +16,7 @@ pub fn all_between(low: i64, high: i64, xs: &[i64]) -> bool
 }
 
 // Whether each number is above the one before.
-pub fn is_rising(xs: &[i64]) -> bool
+pub(crate) fn is_rising(xs: &[i64]) -> bool
     ensures { λ r. ⌜ r ≡ rising (now (xs .entry)) ⌝ }
 {
     let [x, rest @ ..] = xs else {
@@ -29,7 +29,7 @@ pub fn is_rising(xs: &[i64]) -> bool
 }
 
 // Whether no number is below the one before.
-pub fn is_never_falling(xs: &[i64]) -> bool
+pub(crate) fn is_never_falling(xs: &[i64]) -> bool
     ensures { λ r. ⌜ r ≡ never-falling (now (xs .entry)) ⌝ }
 {
     let [x, rest @ ..] = xs else {
@@ -53,7 +53,7 @@ fn on_line(base: i64, p: i64, s: i64, y: i64) -> i64
 }
 
 // The cost at y, where it is `base` at p and rises by s, and by the next slope after each point.
-pub fn cost_along(base: i64, p: i64, s: i64, points: &[i64], slopes: &[i64], y: i64) -> i64
+pub(crate) fn cost_along(base: i64, p: i64, s: i64, points: &[i64], slopes: &[i64], y: i64) -> i64
     requires sound { ⌜ Walkable base p s (now points) (now slopes) ⌝ }
     requires power { ⌜ Within 100000000 y ⌝ }
     ensures { λ r. ⌜ r ≡ walk base p s (now (points .entry)) (now (slopes .entry)) y (pos 1) ⌝ }
@@ -91,7 +91,7 @@ fn net_on_line(base: i64, p: i64, s: i64, q: i64, y: i64) -> i64
 }
 
 // The least of cost - q × power from a to b: at a, at b or at a point between.
-pub fn least_along(
+pub(crate) fn least_along(
     base: i64,
     p: i64,
     s: i64,

@@ -1,0 +1,9 @@
+pub mod Range
+pub mod Name
+pub mod Change
+pub mod HandOver
+pub mod Dispatch
+pub mod Prices
+pub mod Trial
+pub mod Write
+pub mod Laws

@@ -9,7 +9,7 @@ use Rattle.std.specs.Numbers.{divEuclid}
 abbrev pub Within : ℕ → ℤ → Type 0
 Within n z = (negℤ (pos n) ≤ℤ z) × (z ≤ℤ pos n)
 
--- the same, as a test: a ≤ z ≤ b
+-- a test: a ≤ z ≤ b
 abbrev pub between : ℤ → ℤ → ℤ → Bool
 between a b z = leZ a z && leZ z b
 

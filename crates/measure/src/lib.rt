@@ -1,4 +1,4 @@
-// The four measures of the panel, each a type of its own, and columns of whole numbers.
+// The four measures, each a type of its own; columns of whole numbers, and limits by row.
 pub mod column;
 pub mod limit;
 pub mod price;

@@ -13,7 +13,7 @@ pub struct Price {
 impl Price {
     pub const LIMIT: i64 = 1_000_000;
 
-    // The price of that many grains, or none outside the range.
+    // The price of that many grains per watt-hour, or none outside the range.
     pub fn new(value: i64) -> Option<Price>
         ensures { λ r. ⌜ Cases r (Within 1000000 value → ⊥) (λ q. q .value ≡ value) ⌝ }
     {
@@ -23,6 +23,7 @@ impl Price {
         Some(Price { value })
     }
 
+    // How many grains per watt-hour.
     pub fn get(self) -> i64
         ensures { λ r. ⌜ r ≡ self .value ⌝ }
     {

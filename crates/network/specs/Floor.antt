@@ -65,6 +65,8 @@ module _ {M N : Type 0} (c : Case M N) (q : Prices) where
     pub residues : All (λ (b : Row Bus). Within 1000000000 (residue (b .row))) (rows (c .buses))
 
 module _ {M N : Type 0} (𝓜 : Meaning M) (𝓝 : Meaning N) where
+  -- The floor: margins at the prices of the machines' buses + prices × demands - tolerance × sizes of the prices - what the branches in
+  -- service are charged - the angle limit × sizes of the residues of all buses but the reference.
   unfoldable pub floor : Case M N → Prices → ℤ
   floor c q =
       total-margins 𝓜 (c .first .machines) (λ i. price c q (c .first .place i))

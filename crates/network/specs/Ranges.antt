@@ -1,10 +1,10 @@
--- The ranges and orders that every bus and every branch keeps.
+-- The ranges and orders that every bus and every branch keeps, and below them the ranges within which sums and products stay inside 64 bits.
 use Prim.Native.Nat.{ℕ, _≤_}
 use lib.IntN.{ℤ, pos}
 use lib.Signed.{_≤ℤ_}
 use Rattle.measure.specs.Range.{Within}
 
--- a bus name
+-- a number in a name: a bus or a circuit
 abbrev pub Name-range : ℕ → Type 0
 Name-range n = (1 ≤ n) × (n ≤ 255)
 

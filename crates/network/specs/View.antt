@@ -1,4 +1,5 @@
--- The case that a view of lent tables shows.
+-- The case that a view of lent tables shows. A table of places that is too short puts the machines after its end at the reference; tables
+-- that a case was laid in are never too short.
 use Prim.Native.Nat.{ℕ}
 use lib.IntN.{ℤ, pos}
 use lib.ListN.{getD, take}

@@ -27,7 +27,7 @@ impl<'a, M> Machines<'a, M> {
         &self.rows[0..rows_used(self.rows, self.count) as usize]
     }
 
-    // The row of the bus of the machine in that row.
+    // The row of the bus of the machine in that row; 0, the reference, where the table of places ends before it.
     pub fn place(&self, row: usize) -> u8
         ensures { λ r. ⌜ r ≡ getD (now (now (self .entry) .places)) row 0 ⌝ }
     {

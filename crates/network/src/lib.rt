@@ -1,4 +1,4 @@
-// The network in the DC model: buses, branches and machines of two kinds; judging a dispatch, and the floor of a price list.
+// The network in the DC model: buses, branches and machines of two kinds, what a dispatch and a price list are, and what holds of them.
 pub mod branch;
 pub mod bus;
 pub mod case;

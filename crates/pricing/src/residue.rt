@@ -18,7 +18,7 @@ use network::case::CaseClone;
 use network::case::rows_used;
 use network::prices::Prices;
 
-// Every angle price lies within ± this many grains per microradian.
+// Every angle price lies within ± this many grains per hour and microradian.
 pub const ANGLE_PRICE_LIMIT: i64 = 100_000_000;
 
 // A case and a price list. Prices outside their ranges count as 0.

@@ -1,7 +1,7 @@
 -- What the small harbour gives, whatever judge and floor answer.
 use Prim.Native.Nat.{ℕ}
 use mathlib.Core.Path.{_≡_}
-use mathlib.Core.Bool.{true, false}
+use mathlib.Core.Bool.{true}
 use lib.IntN.{ℤ, pos, negsuc}
 use Rattle.std.specs.declared.result.Result.{Result}
 use Rattle.std.specs.declared.result.Result.the-variants.{Ok, Err}
@@ -13,7 +13,8 @@ use Rattle.network.specs.declared.refusal.Refusal.the-variants.{Overloaded}
 use Rattle.network.specs.Refusals.{number-of}
 use Rattle.network.specs.Judged.{Judged}
 use Rattle.network.specs.Floored.{Floored}
-use Rattle.small_harbour.specs.Harbour.{harbour, dispatch, prices}
+use Rattle.pricing.specs.Outage.{Floored-without}
+use Rattle.small_harbour.specs.Harbour.{line-name, harbour, dispatch, prices}
 
 abbrev pub Answer : Type 0
 Answer = Result Grains Refusal
@@ -36,7 +37,7 @@ abbrev pub Floors : ℕ → ℤ → ℤ → ℤ → ℤ → (Answer → Type 0) 
 Floors E l₁ l₂ μ ν P = (r : Answer) → Floored stepped-meaning curved-meaning (harbour E true) (prices l₁ l₂ μ ν) r → P r
 
 pub record Example : Type 0 where
-  pub cheapest : Judges 0 (pos 600) (pos 400) (negsuc 59) (λ r. r ≡ grains (pos 24080))
+  pub even-share : Judges 0 (pos 600) (pos 400) (negsuc 59) (λ r. r ≡ grains (pos 24080))
   pub dearer : Judges 0 (pos 800) (pos 200) (negsuc 79) (λ r. r ≡ grains (pos 28020))
   pub uneven : Judges 0 (pos 801) (pos 199) (negsuc 79) (Refused-by 12)
   pub tolerated : Judges 1 (pos 801) (pos 199) (negsuc 79) (λ r. r ≡ grains (pos 28040))
@@ -45,4 +46,4 @@ pub record Example : Type 0 where
   pub even-prices-tolerated : Floors 1 (pos 30) (pos 30) (pos 0) (pos 0) (λ r. r ≡ grains (pos 23940))
   pub uneven-prices : Floors 0 (pos 30) (pos 31) (pos 0) (pos 0) (λ r. r ≡ grains (negsuc 31975499))
   pub priced-angle : Floors 0 (pos 30) (pos 30) (pos 0) (pos 5) (λ r. r ≡ grains (negsuc 47975999))
-  pub branch-out : (r : Answer) → Floored stepped-meaning curved-meaning (harbour 0 false) (prices (pos 20) (pos 31) (pos 0) (pos 0)) r → r ≡ grains (pos 30500)
+  pub branch-out : (r : Answer) → Floored-without stepped-meaning curved-meaning (harbour 0 true) (prices (pos 20) (pos 31) (pos 0) (pos 0)) line-name r → r ≡ grains (pos 30500)

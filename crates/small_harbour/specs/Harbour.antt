@@ -36,10 +36,13 @@ west = record { name = 1; demand = record { 0 = pos 0 }; ok = ((lit≤ tt, lit�
 abbrev pub east : Bus
 east = record { name = 2; demand = record { 0 = pos 1000 }; ok = ((lit≤ tt, lit≤ tt), (record { le = tt }, record { le = tt })) }
 
+abbrev pub line-name : BranchName
+line-name = record { circuit = 1; from = 1; to = 2 }
+
 abbrev pub line : Bool → Branch
 line service =
     record {
-      name = record { circuit = 1; from = 1; to = 2 };
+      name = line-name;
       ends = record { from = 0; to = 1 };
       susceptance = pos 10;
       shift = record { 0 = pos 0 };

@@ -18,7 +18,7 @@ use measure::WattsPartialEq;
 use measure::price::Price;
 use measure::range::is_between;
 
-// It may run at every power from lo to hi. Its cost is c millions of grains at the first of its n points, and from there on goes by its n - 1 slopes: a slope
+// It may run at every power from lo to hi. Its cost is c millions of grains per hour at the first of its n points, and from there on goes by its n - 1 slopes: a slope
 // in grains per watt-hour for each two neighbouring points in watts, the first and the last going on outside. What stands after them is not used. Any
 // numbers may stand in a row: one that breaks a range stands idle.
 #[derive(Clone, Copy, PartialEq, Eq, Debug)]

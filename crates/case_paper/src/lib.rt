@@ -1,4 +1,6 @@
 // The paper of a case, read wholly from its words.
+#![tactic(auto)]
+
 pub mod case;
 pub mod count;
 pub mod fault;

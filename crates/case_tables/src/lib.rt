@@ -1,4 +1,6 @@
 // A case read from its words into lent tables.
+#![tactic(auto)]
+
 pub mod laws;
 mod list;
 pub mod read;

@@ -1,4 +1,6 @@
 // Cases of two buses, a machine of each kind and two branches, as words: what is read, and what one wrong name is refused for.
+#![tactic(auto)]
+
 #[cfg(test)]
 mod cases;
 #[cfg(test)]

@@ -1,3 +1,5 @@
 // Machines with a quadratic cost.
+#![tactic(auto)]
+
 pub mod curved;
 mod quadratic;

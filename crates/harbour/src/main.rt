@@ -1,4 +1,6 @@
 // Judges dispatches and price lists on the small harbour, and prints what becomes of each.
+#![tactic(auto)]
+
 mod report;
 mod tables;
 

@@ -1,4 +1,6 @@
 // Judges the papers of a file: the case, then each dispatch and each price list for it.
+#![tactic(auto)]
+
 mod judge;
 mod tables;
 

@@ -1,4 +1,6 @@
 // Judging a whole dispatch: its counted cost exactly if it meets the case, else the limit that it breaks.
+#![tactic(auto)]
+
 mod angles;
 mod balance;
 pub mod judge;

@@ -1,4 +1,6 @@
 // Tables of what machines of the two kinds answer.
+#![tactic(auto)]
+
 pub mod curved_rows;
 pub mod group_sums;
 pub mod stepped_rows;

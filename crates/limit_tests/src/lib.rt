@@ -1,4 +1,6 @@
 // What judging a dispatch and the floor of a price list answer at their limits and one beside.
+#![tactic(auto)]
+
 #[cfg(test)]
 mod dispatches;
 #[cfg(test)]

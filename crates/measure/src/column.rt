@@ -31,8 +31,8 @@ impl<'a> Column for Table<'a> {
 
 // The sum of a column's first rows, of which each is small enough that the sum fits.
 pub fn sum<C: Column>(column: &C, count: u8) -> i64
-    requires { Small (value column.now) count }
-    ensures { result ≡ sum_to (value column.now) count }
+    requires { Small (C.value column.now) count }
+    ensures { result ≡ sum_to (C.value column.now) count }
 {
     let mut sum = 0;
     for row in 0..count {

@@ -1,4 +1,6 @@
 // The measures, each a type of its own; columns of numbers and of one measure each; limits by row.
+#![tactic(auto)]
+
 pub mod column;
 pub mod limit;
 pub mod measured;

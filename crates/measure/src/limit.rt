@@ -13,7 +13,7 @@ pub trait Limit {
 
 // The lowest of the first rows that breaks the limit, or none.
 pub fn first_broken<L: Limit>(limit: &L, count: u8) -> Option<usize>
-    ensures { Lowest (λ i. (i < count) × (broken limit.now i ≡ true)) result }
+    ensures { Lowest (λ i. (i < count) × (L.broken limit.now i ≡ true)) result }
 {
     for row in 0..count {
         if limit.is_broken(row as usize) {

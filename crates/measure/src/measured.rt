@@ -15,7 +15,7 @@ pub struct PowerColumn<C> {
 impl<C: Column> PowerColumn<C> {
     // The power in that row.
     pub fn at(&self, row: usize) -> Watts
-        ensures { result.0 ≡ C.Column.value self.now.column row }
+        ensures { result.0 ≡ C.value self.now.column row }
     {
         Watts(self.column.at(row))
     }
@@ -30,7 +30,7 @@ pub struct AngleColumn<C> {
 impl<C: Column> AngleColumn<C> {
     // The angle in that row.
     pub fn at(&self, row: usize) -> Microradians
-        ensures { result.0 ≡ C.Column.value self.now.column row }
+        ensures { result.0 ≡ C.value self.now.column row }
     {
         Microradians(self.column.at(row))
     }
@@ -45,14 +45,14 @@ pub struct PriceColumn<C> {
 impl<C: Column> PriceColumn<C> {
     // The price in that row, or none where the number is outside the range of prices.
     pub fn at(&self, row: usize) -> Option<Price>
-        ensures { MatchOption result (Within 1000000 (C.Column.value self.now.column row) → ⊥) (λ q. q.value ≡ C.Column.value self.now.column row) }
+        ensures { MatchOption result (Within 1000000 (C.value self.now.column row) → ⊥) (λ q. q.value ≡ C.value self.now.column row) }
     {
         Price::new(self.column.at(row))
     }
 
     // The price in that row, or 0 where the number is outside the range of prices.
     pub fn kept(&self, row: usize) -> Price
-        ensures { result.value ≡ kept (neg_ℤ (pos 1000000)) (pos 1000000) (C.Column.value self.now.column row) }
+        ensures { result.value ≡ kept (neg_ℤ (pos 1000000)) (pos 1000000) (C.value self.now.column row) }
     {
         self.at(row).unwrap_or(Price::zero())
     }
@@ -67,7 +67,7 @@ pub struct AnglePriceColumn<C> {
 impl<C: Column> AnglePriceColumn<C> {
     // The angle price in that row.
     pub fn at(&self, row: usize) -> AnglePrice
-        ensures { result.0 ≡ C.Column.value self.now.column row }
+        ensures { result.0 ≡ C.value self.now.column row }
     {
         AnglePrice(self.column.at(row))
     }

@@ -1,4 +1,6 @@
 // The name list at two kinds of row: buses, named by single numbers, and branches, named by triples.
+#![tactic(auto)]
+
 ghost use Rattle.std.specs.Prelude.{◌≡◌, Decides};
 ghost use Rattle.measure.specs.Rows.{HoldsAt, Lowest};
 ghost use Rattle.names.specs.Names.{Repeats, Distinct};

@@ -1,4 +1,6 @@
 // Papers: what each is, read from lent words, and a dispatch written out.
+#![tactic(auto)]
+
 pub mod change;
 pub mod dispatch;
 pub mod hand_over;

@@ -1,4 +1,6 @@
 // The papers of files.
+#![tactic(auto)]
+
 #[cfg(test)]
 mod papers;
 #[cfg(test)]

@@ -1,4 +1,6 @@
 // Tables of words, and what each reader makes of them.
+#![tactic(auto)]
+
 #[cfg(test)]
 mod cases;
 #[cfg(test)]

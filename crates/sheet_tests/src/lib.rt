@@ -1,3 +1,5 @@
 // Sheets and the bytes that they are written as.
+#![tactic(auto)]
+
 #[cfg(test)]
 mod sheets;

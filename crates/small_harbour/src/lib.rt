@@ -1,2 +1,4 @@
 // The small harbour, a worked example.
+#![tactic(auto)]
+
 pub mod example;

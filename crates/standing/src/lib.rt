@@ -1,4 +1,6 @@
 // What stands on a dispatch panel after any run of calls, for any network.
+#![tactic(auto)]
+
 ghost use Rattle.standing.specs.Model.{Model, Grounds};
 ghost use Rattle.standing.specs.Example.{one_bus, ExampleRun};
 ghost use Rattle.standing.specs.Theorems.{StandingTheorem, PinningTheorem, SameCallsTheorem, RefusalsAlterNothing, ReofferedTheorem};

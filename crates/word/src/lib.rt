@@ -1,4 +1,6 @@
 // Words of 32 bits, what is due at each place of a paper, and the reading of papers of fixed length.
+#![tactic(auto)]
+
 pub mod amount;
 pub mod bytes;
 pub mod column;

@@ -21,8 +21,8 @@ next g c =
     (rw (so_far g c) (sum_within 36000000000000000 f n (λ i l. c.requires i (omega arith))))
     (rw c.at-sum.ensures (c.requires n (omega arith)))
 
-pub overflow-add-sum : goal.overflow-add-sum
-overflow-add-sum g c = let s = next g c in let e = c.loop-row.sum-is in let o = c.at-sum.type-inv in omega (arith, ints)
+pub overflow_add-sum : goal.overflow_add-sum
+overflow_add-sum g c = let s = next g c in let e = c.loop-row.sum-is in let o = c.at-sum.type_inv in omega (arith, ints)
 
 pub loop-row-init : goal.loop-row-init
 unfolding sum_to
@@ -33,7 +33,7 @@ loop-row-preserved g c =
     let f = g.C.Column.value c.args.column.now in
     let s = next g c in
     let e = c.loop-row.sum-is in
-    let o = c.at-sum.type-inv in
+    let o = c.at-sum.type_inv in
     let i = so_far g c in
     let n = c.at-sum.ensures in
     let m = sum_more f c.loop-row.row in

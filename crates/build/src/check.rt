@@ -39,7 +39,7 @@ fn first_crossed(rows: &[BranchRow]) -> Option<usize>
 
 // The lowest row whose name an earlier row has, or none.
 fn first_repeated<R: Named>(rows: &[R]) -> Option<usize>
-    ensures { Lowest (Repeats Kind-as-Name.same R.Named.name rows.now) result }
+    ensures { Lowest (Repeats R.Kind.same R.name rows.now) result }
 {
     NameList { rows }.repeated()
 }

@@ -1,19 +1,18 @@
 -- From what the searches of judging found, over lent tables, to its answer. n is the number of the case's buses as the code counts them.
-use Rattle.std.proofs.Common.{◌≡◌, ℕ, ◌<◌, Bool, true, List, length, take, ℤ, sym, subst}
+use Rattle.std.proofs.Common.{◌≡◌, ℕ, ◌<◌, Bool, true, List, length, ℤ, sym, subst}
 use Rattle.measure.specs.declared.Grains.{Grains}
-use Rattle.measure.specs.Rows.{Row, rows, All, row_test}
+use Rattle.measure.specs.Rows.{Row, rows, row_test}
 use Rattle.measure.proofs.Sums.{each, look, in_rows}
 use Rattle.measure.proofs.Tested.{none_passes, row_passes, holds_so}
 use Rattle.machine.specs.Meaning.{Meaning, Keeps}
 use Rattle.network.specs.declared.bus.Bus.{Bus}
-use Rattle.network.specs.declared.branch.Branch.{Branch}
 use Rattle.network.specs.declared.refusal.Refusal.{Refusal}
 use Rattle.network.specs.declared.refusal.Refusal.TheVariants.{Unbalanced, Overloaded, Overstretched}
 use Rattle.network.specs.declared.case.Case as view
 use Rattle.network.specs.Model.{Case, WholeDispatch, counted}
 use Rattle.network.specs.View.{case_of}
 use Rattle.judging.specs.Whole.{angle_of, angle_beyond, unbalanced, overloaded_row, overstretched_row}
-use Rattle.network.specs.Judged.{AnglesKept, Balanced, RatingsKept, LimitsKept, InBalance, WithinRating, WithinLimits, PowersAllowed, Taken, Declined}
+use Rattle.network.specs.Judged.{AnglesKept, Balanced, RatingsKept, LimitsKept, InBalance, PowersAllowed, Taken, Declined}
 use Rattle.judging.specs.Judging.{PowerFault}
 use Rattle.judging.proofs.Judging.{θ, angles_kept, overloaded_so, rated_so, overstretched_so, limited_so, unbalanced_so, balanced_so}
 use Rattle.judging.proofs.Verdicts.{not_allowed, out_of_balance, over_rating, over_limits, taken}

@@ -1,11 +1,11 @@
 -- From tests in whole numbers to the limits in fractions: once every angle is in its range and every power is allowed, nothing counts as 0,
 -- and each test says what the limit says.
-use Rattle.std.proofs.Common.{◌≡◌, ℕ, zero, suc, ◌-◌, ◌<◌, Bool, true, false, not, ◌&&◌, T, eqb, ltb, List, length, ℤ, pos, ◌+ℤ◌, ◌-ℤ◌, ◌*ℤ◌, neg_ℤ, ◌≤ℤ◌, ◌<ℤ◌, sym, refl, ap, ◌∙◌, subst, arith, lit≤, ltb→lt}
+use Rattle.std.proofs.Common.{◌≡◌, ℕ, zero, suc, ◌<◌, Bool, true, false, not, ◌&&◌, T, eqb, ltb, List, length, ℤ, pos, ◌-ℤ◌, ◌*ℤ◌, neg_ℤ, ◌≤ℤ◌, ◌<ℤ◌, sym, refl, ap, ◌∙◌, subst, arith, lit≤, ltb→lt}
 use lib.Signed.{le_z, lt_z}
 use Rattle.std.proofs.lemmas.Bool.{and_parts, and_from, both_ways}
 use Rattle.measure.specs.Range.{Within, between}
 use Rattle.measure.specs.Fraction.{Fraction, whole, Between}
-use Rattle.measure.specs.Rows.{Row, rows, total, only, All}
+use Rattle.measure.specs.Rows.{Row, rows, total, only}
 use Rattle.measure.proofs.Laws.{lin, mul_one}
 use Rattle.measure.proofs.Order.{kept_same, test, test_within}
 use Rattle.measure.proofs.Fractions.{whole_between}
@@ -16,7 +16,7 @@ use Rattle.machine.specs.Group.{AllowedAll}
 use Rattle.network.specs.declared.bus.Bus.{Bus}
 use Rattle.network.specs.declared.branch.Branch.{Branch}
 use Rattle.network.specs.Model.{Group, Case, WholeDispatch, in_fractions, difference, flow, mismatch, angle_limit}
-use Rattle.judging.specs.Whole.{kept_angle, kept_power, angle_of, difference_of, flow_of, outflow_of, outflow_row, given_at, mismatch_of, angle_beyond, unbalanced, overloaded, overstretched}
+use Rattle.judging.specs.Whole.{kept_angle, angle_of, difference_of, flow_of, outflow_of, outflow_row, given_at, mismatch_of, angle_beyond, unbalanced, overloaded, overstretched}
 use Rattle.network.specs.Judged.{AnglesKept, InBalance, WithinRating, WithinLimits, PowersAllowed}
 use Rattle.network.proofs.Scaled.{angleᶻ, flowᶻ, leavingᶻ, arrivingᶻ, injectionᶻ, mismatchᶻ, over_difference, over_flow, over_mismatch, whole_angles, whole_first, whole_second}
 

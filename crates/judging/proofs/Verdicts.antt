@@ -1,22 +1,22 @@
 -- From what the tests of judging found to its answer: the dispatch is taken, or the refusal is due and the dispatch misses the case.
-use Rattle.std.proofs.Common.{◌≡◌, ℕ, zero, suc, ◌+◌, ◌-◌, ◌<◌, Bool, true, false, T, ltb, ◌⊎◌, List, length, ℤ, pos, neg_ℤ, ◌<ℤ◌, Some, sym, refl, ap, ◌∙◌, subst, inl, inr, ⊎_elim, arith, ltb→lt, lt→ltb}
+use Rattle.std.proofs.Common.{◌≡◌, ℕ, zero, suc, ◌+◌, ◌-◌, ◌<◌, true, false, T, ltb, length, pos, neg_ℤ, ◌<ℤ◌, Some, sym, refl, subst, ⊎_elim, arith, lt→ltb}
 use Rattle.std.proofs.lemmas.Bool.{both_ways}
 use Rattle.measure.specs.declared.Grains.{Grains}
-use Rattle.measure.specs.Range.{Within, between}
+use Rattle.measure.specs.Range.{Within}
 use Rattle.measure.specs.Fraction.{whole, ◌≤ᶠ◌, Between}
-use Rattle.measure.specs.Rows.{Row, rows, only, All, HoldsAt, Lowest, Stands}
+use Rattle.measure.specs.Rows.{Row, rows, All, HoldsAt, Lowest}
 use Rattle.measure.proofs.Laws.{lin}
 use Rattle.measure.proofs.Order.{within_test, test_within}
-use Rattle.measure.proofs.Sums.{In, look, each, only_if, row_stands, row_item, stands_row}
+use Rattle.measure.proofs.Sums.{look, each, only_if, row_stands, row_item, stands_row}
 use Rattle.measure.proofs.Tested.{holds_not, holds_in, row_there}
 use Rattle.machine.specs.Meaning.{Meaning, Keeps}
 use Rattle.network.specs.declared.bus.Bus.{Bus}
 use Rattle.network.specs.declared.branch.Branch.{Branch}
 use Rattle.network.specs.declared.refusal.Refusal.{Refusal}
-use Rattle.network.specs.declared.refusal.Refusal.TheVariants.{OutOfRange, NotAllowed, Unbalanced, Overloaded, Overstretched}
+use Rattle.network.specs.declared.refusal.Refusal.TheVariants.{OutOfRange, Unbalanced, Overloaded, Overstretched}
 use Rattle.network.specs.Model.{Case, WholeDispatch, in_fractions, angle, angle_limit, Meets, true_cost, counted}
 use Rattle.judging.specs.Whole.{angle_beyond}
-use Rattle.network.specs.Judged.{AngleBeyond, InBalance, WithinRating, WithinLimits, AnglesKept, Balanced, RatingsKept, LimitsKept, PowersAllowed, PowerRefused, Refused, Taken, Declined}
+use Rattle.network.specs.Judged.{AngleBeyond, InBalance, WithinRating, WithinLimits, AnglesKept, Balanced, RatingsKept, LimitsKept, PowersAllowed, Taken, Declined}
 use Rattle.judging.specs.Judging.{PowerFault}
 use Rattle.network.proofs.Scaled.{angleᶻ, whole_angles}
 use Rattle.network.proofs.Counted.{counted-covers}

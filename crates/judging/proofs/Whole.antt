@@ -1,7 +1,7 @@
 -- The quantities of the model at whole numbers: their sizes.
-use Rattle.std.proofs.Common.{◌≡◌, ℕ, zero, suc, ◌-◌, ◌*◌, ◌<◌, ◌≤◌, Bool, true, false, eqb, ltb, List, take, ℤ, pos, ◌-ℤ◌, ◌*ℤ◌, refl, ap, mul-le-mul_right, arith, lit<, w64, SFits}
+use Rattle.std.proofs.Common.{◌≡◌, ℕ, zero, suc, ◌-◌, ◌<◌, eqb, ltb, ℤ, ◌-ℤ◌, ◌*ℤ◌, ap, arith, lit<, w64, SFits}
 use Rattle.measure.specs.Range.{Within}
-use Rattle.measure.specs.Rows.{Row, rows, total, only}
+use Rattle.measure.specs.Rows.{Row, only}
 use Rattle.measure.proofs.Laws.{lin}
 use Rattle.measure.proofs.Order.{product_within, kept-within, only-within}
 use Rattle.measure.proofs.Sizes.{fits}

@@ -1,5 +1,5 @@
 -- The first part of judging: the cost of a dispatch whose powers are allowed.
-use Rattle.std.specs.Prelude.{◌≡◌, ℕ, ℤ, Ok, Err, Result}
+use Rattle.std.specs.Prelude.{◌≡◌, ℕ, Ok, Err, Result}
 use Rattle.measure.specs.declared.Grains.{Grains}
 use Rattle.machine.specs.Meaning.{Meaning}
 use Rattle.network.specs.declared.refusal.Refusal.{Refusal}

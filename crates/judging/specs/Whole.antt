@@ -1,11 +1,11 @@
 -- The quantities of the model at a dispatch in whole numbers. Powers and angles outside their ranges count as 0 here, so that no sum
 -- overflows; a dispatch that has one is refused before it is judged further.
-use Rattle.std.specs.Prelude.{ℕ, zero, suc, Bool, false, not, ◌&&◌, List, ℤ, pos, ◌+ℤ◌, ◌-ℤ◌, ◌*ℤ◌, neg_ℤ, ◌==◌, int_lt, nat_lt}
+use Rattle.std.specs.Prelude.{ℕ, zero, suc, Bool, false, not, ◌&&◌, ℤ, pos, ◌+ℤ◌, ◌-ℤ◌, ◌*ℤ◌, neg_ℤ, ◌==◌, int_lt, nat_lt}
 use Rattle.measure.specs.Range.{between, kept}
 use Rattle.measure.specs.Rows.{Row, rows, total, only}
 use Rattle.network.specs.declared.bus.Bus.{Bus}
 use Rattle.network.specs.declared.branch.Branch.{Branch}
-use Rattle.network.specs.Model.{Group, Case, angle_limit}
+use Rattle.network.specs.Model.{Case, angle_limit}
 
 -- an angle or a power, or 0 outside its range
 abbrev pub kept_angle : ℤ → ℤ

@@ -13,7 +13,7 @@ pub struct NameList<'a, R> {
 impl<'a, R: Named> NameList<'a, R> {
     // The lowest row that has the name, or none.
     pub fn find(&self, sought: &R::Kind) -> Option<usize>
-        ensures { Lowest (HoldsAt (HasName R.Kind.Name.same R.Named.name sought.now) self.now.rows.now) result }
+        ensures { Lowest (HoldsAt (HasName R.Kind.same R.name sought.now) self.now.rows.now) result }
     {
         for (i, row) in self.rows.iter().enumerate() {
             if row.name().is_same(sought) {
@@ -25,7 +25,7 @@ impl<'a, R: Named> NameList<'a, R> {
 
     // The lowest row whose name an earlier row has, or none.
     pub fn repeated(&self) -> Option<usize>
-        ensures { Lowest (Repeats R.Kind.Name.same R.Named.name self.now.rows.now) result }
+        ensures { Lowest (Repeats R.Kind.same R.name self.now.rows.now) result }
     {
         for (i, row) in self.rows.iter().enumerate() {
             if self.find(&row.name()) != Some(i) {

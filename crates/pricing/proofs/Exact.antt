@@ -1,5 +1,5 @@
 -- The floor of a lawful list, from the sums that are taken over its machines, buses and branches.
-use Rattle.std.proofs.Common.{◌≡◌, ℕ, suc, ◌<◌, ◌≤◌, Bool, true, false, cond, T, ltb, List, [], ◌∷◌, length, ℤ, pos, ◌+ℤ◌, ◌-ℤ◌, ◌*ℤ◌, sym, refl, ap, ◌∙◌, arith, lit<, w64, SFits}
+use Rattle.std.proofs.Common.{◌≡◌, ℕ, suc, ◌<◌, Bool, true, false, cond, T, ltb, List, [], ◌∷◌, length, ℤ, pos, ◌+ℤ◌, ◌-ℤ◌, ◌*ℤ◌, refl, ap, ◌∙◌, arith, lit<, w64, SFits}
 use lib.Signed.{non_neg}
 use Rattle.std.proofs.lemmas.Bool.{lt-ltb}
 use Rattle.measure.specs.Range.{Within, ∣◌∣}

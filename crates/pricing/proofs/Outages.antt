@@ -1,7 +1,7 @@
 -- Service marks of branches, set and put back.
-use Rattle.std.proofs.Common.{◌≡◌, ℕ, zero, suc, ◌<◌, Bool, false, List, [], ◌∷◌, length, get_or, take, set, ℤ, pos, ◌≤ℤ◌, sym, refl, ap, ◌∙◌, arith}
+use Rattle.std.proofs.Common.{◌≡◌, ℕ, zero, suc, ◌<◌, Bool, List, [], ◌∷◌, length, get_or, take, set, ℤ, pos, ◌≤ℤ◌, refl, ap, arith}
 use native.Mathlib.Bridge.{le_prop}
-use denote.Struct.Props.{≤ℤ_prop}
+use denote.Struct.Props.{props}
 use Rattle.network.specs.declared.branch.Branch.{Branch}
 use Rattle.measure.specs.Range.{Within}
 use Rattle.network.specs.Ranges.{NameRange, Limits}
@@ -11,8 +11,12 @@ use Rattle.pricing.specs.Outage.{marked, with_mark}
 range_same : {n : ℕ} (x y : NameRange n) → x ≡ y
 range_same x y = λ i. (le_prop x.0 y.0 i, le_prop x.1 y.1 i)
 
+-- that one whole number is at most another has one proof at most
+at_most_prop : {a b : ℤ} → IsProp (a ≤ℤ b)
+at_most_prop = hlevel props
+
 between-same : {a b c d : ℤ} (x y : (a ≤ℤ b) × (c ≤ℤ d)) → x ≡ y
-between-same x y = λ i. (≤ℤ_prop x.0 y.0 i, ≤ℤ_prop x.1 y.1 i)
+between-same x y = λ i. (at_most_prop x.0 y.0 i, at_most_prop x.1 y.1 i)
 
 pub marked-as : (m : Bool) (b : Branch) (n : NameRange b.name.circuit × NameRange b.name.from × NameRange b.name.to) (s : (pos 1 ≤ℤ b.susceptance) × (b.susceptance ≤ℤ pos 1000000)) (h : Within 1600000 b.shift.0) (r : (pos 0 ≤ℤ b.rating.0) × (b.rating.0 ≤ℤ pos 100000000)) (l : Limits b.angmin.0 b.angmax.0) → ◌≡◌ {A = Branch} (record { name = b.name; ends = b.ends; susceptance = b.susceptance; shift = b.shift; rating = b.rating; angmin = b.angmin; angmax = b.angmax; service = m; named = n; susceptible = s; shifted = h; rated = r; limited = l }) (marked m b)
 marked-as m b n s h r l =
@@ -30,7 +34,7 @@ marked-as m b n s h r l =
       susceptible = between-same s b.susceptible i;
       shifted = between-same h b.shifted i;
       rated = between-same r b.rated i;
-      limited = (between-same l.0 b.limited.0 i, between-same l.1 b.limited.1 i, ≤ℤ_prop l.2 b.limited.2 i);
+      limited = (between-same l.0 b.limited.0 i, between-same l.1 b.limited.1 i, at_most_prop l.2 b.limited.2 i);
     }
 
 -- a mark set in a row

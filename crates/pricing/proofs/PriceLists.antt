@@ -1,18 +1,18 @@
 -- From the tests of a price list to its lawfulness, and from the quantities of a list in range to those of the floor.
-use Rattle.std.proofs.Common.{◌≡◌, ℕ, zero, suc, ◌+◌, ◌-◌, ◌^◌, ◌<◌, ◌≤◌, Bool, true, false, cond, not, ◌&&◌, ◌||◌, T, eqb, ltb, List, [], ◌∷◌, length, ℤ, pos, negsuc, ◌+ℤ◌, ◌-ℤ◌, ◌*ℤ◌, neg_ℤ, Some, None, Option, sym, refl, ap, ◌∙◌, subst, inl, inr, ⊎_elim, arith, ltb→lt, w64, of_z, MatchOption}
+use Rattle.std.proofs.Common.{◌≡◌, ℕ, zero, suc, ◌+◌, ◌-◌, ◌^◌, ◌<◌, Bool, true, false, not, ◌&&◌, T, eqb, ltb, List, [], ◌∷◌, length, ℤ, pos, negsuc, ◌+ℤ◌, ◌-ℤ◌, ◌*ℤ◌, neg_ℤ, Some, None, Option, sym, refl, ap, subst, inr, ⊎_elim, arith, ltb→lt, w64, of_z, MatchOption}
 use lib.Signed.{mag}
-use Rattle.std.proofs.lemmas.Bool.{ne_eqb, eqb-true, false≢true, both_ways, cases_Bool, and_parts, and_from, or_cases, or_parts, not-true, not-false, not_from_true, not_from_false}
-use Rattle.measure.specs.Range.{Within, between, kept}
-use Rattle.measure.specs.Rows.{Row, rows, total, only, All, Stands, HoldsAt, Lowest}
+use Rattle.std.proofs.lemmas.Bool.{ne_eqb, eqb-true, false≢true, both_ways, cases_Bool, and_parts, and_from, or_cases, or_parts, not-true, not-false, not_from_false}
+use Rattle.measure.specs.Range.{Within, between}
+use Rattle.measure.specs.Rows.{Row, rows, only, All, Stands, Lowest}
 use Rattle.measure.proofs.Order.{within_test, test_within, kept_same}
 use Rattle.measure.proofs.Sums.{In, look, each, row_stands, stands_row, stands_below, total_same}
 use Rattle.network.specs.declared.bus.Bus.{Bus}
 use Rattle.network.specs.declared.branch.Branch.{Branch}
-use Rattle.network.specs.declared.refusal.Refusal.TheVariants.{OutOfRange, Unrated, Weight, Residue}
+use Rattle.network.specs.declared.refusal.Refusal.TheVariants.{Unrated, Weight, Residue}
 use Rattle.network.specs.Model.{Case}
 use Rattle.network.specs.Floor.{Prices, price, weight, pull, residue, LawfulList}
 use Rattle.pricing.specs.Kept.{kept_price, kept_angle_price, kept_prices, bus_price_beyond, branch_price_beyond, is_zero, unrated, overweight, residue_beyond}
-use Rattle.network.specs.Floored.{BusPricesKept, BranchPricesKept, NoneUnrated, WeightsKept, BusPriceBeyond, BranchPriceBeyond, OutOfRangeAt, UnratedRow, WeightBeyond, ResidueBeyond, UnratedAt, WeightAt, ResidueAt, Refused}
+use Rattle.network.specs.Floored.{BusPricesKept, BranchPricesKept, NoneUnrated, WeightsKept, BusPriceBeyond, BranchPriceBeyond, OutOfRangeAt, UnratedRow, WeightBeyond, ResidueBeyond, Refused}
 use Rattle.pricing.proofs.RowLimits.{lowest-as, none_broken}
 
 -- ---- tests

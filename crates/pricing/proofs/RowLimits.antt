@@ -1,8 +1,8 @@
 -- Limits by row: from a test of each row to what holds of the table's rows.
-use Rattle.std.proofs.Common.{◌≡◌, ℕ, zero, suc, ◌+◌, ◌<◌, ◌≤◌, Bool, true, false, not, List, [], ◌∷◌, length, take, Some, None, Option, sym, refl, ap, ◌∙◌, subst, arith}
-use Rattle.std.proofs.lemmas.Bool.{false≢true, cases_Bool}
-use Rattle.measure.specs.Rows.{Row, numbered, rows, All, Stands, HoldsAt, Lowest, row_or, row_test}
-use Rattle.measure.proofs.Sums.{In, each, row_stands, stands_below}
+use Rattle.std.proofs.Common.{◌≡◌, ℕ, zero, suc, ◌+◌, ◌<◌, Bool, true, false, List, [], ◌∷◌, take, Some, None, Option, sym, refl, ap, ◌∙◌, subst, arith}
+use Rattle.std.proofs.lemmas.Bool.{false≢true}
+use Rattle.measure.specs.Rows.{Row, rows, All, Stands, HoldsAt, Lowest, row_or, row_test}
+use Rattle.measure.proofs.Sums.{each, row_stands}
 
 -- the lowest of which P holds is the lowest of which Q holds, where the two say the same
 pub lowest-as : (P Q : ℕ → Type 0) → ((i : ℕ) → P i → Q i) → ((i : ℕ) → Q i → P i) → (r : Option ℕ) → Lowest P r → Lowest Q r

@@ -6,27 +6,27 @@ use Rattle.build.specs.Raw.{BusOf}
 use Rattle.build.specs.Build.{Placed, Joined, Laid, lent}
 use Rattle.build.proofs.build.lay.Goals as goal
 
-pub fill-places-requires : goal.fill-places-requires
-fill-places-requires g c =
-    let a = c.in-ok-counts.ensures.0 in
+pub fill_places-requires : goal.fill_places-requires
+fill_places-requires g c =
+    let a = c.in_ok-counts.ensures.0 in
     record {
       few = a.sizes.buses.1;
       known = first_known g.M.Machine.meaning g.N.Machine.meaning c.args.rows.now a.known;
       room = a.sizes.first_room;
     }
 
-pub fill-places-requires-2 : goal.fill-places-requires-2
-fill-places-requires-2 g c =
-    let a = c.in-ok-counts.ensures.0 in
+pub fill_places-requires-2 : goal.fill_places-requires-2
+fill_places-requires-2 g c =
+    let a = c.in_ok-counts.ensures.0 in
     record {
       few = a.sizes.buses.1;
       known = second_known g.M.Machine.meaning g.N.Machine.meaning c.args.rows.now a.known;
       room = a.sizes.second_room;
     }
 
-pub fill-branches-requires : goal.fill-branches-requires
-fill-branches-requires g c =
-    let a = c.in-ok-counts.ensures.0 in
+pub fill_branches-requires : goal.fill_branches-requires
+fill_branches-requires g c =
+    let a = c.in_ok-counts.ensures.0 in
     record {
       few = a.sizes.buses.1;
       ranges = a.ranges.branches;
@@ -41,17 +41,17 @@ returns g c =
     let 𝓝 = g.N.Machine.meaning in
     let o = c.args.rows.now in
     let names = o.buses.now in
-    let a = c.in-ok-counts.ensures in
-    let n = c.in-ok-counts.counts in
+    let a = c.in_ok-counts.ensures in
+    let n = c.in_ok-counts.counts in
     let before = lent c.args.buses.now c.args.first.now c.args.second.now c.args.branches.now in
-    let after = lent c.fill-buses.new.table c.fill-places.new.table c.fill-places-2.new.table c.fill-branches.new.table in
+    let after = lent c.fill_buses.new.table c.fill_places.new.table c.fill_places-2.new.table c.fill_branches.new.table in
     let done : Laid 𝓜 𝓝 o before after n =
     record {
       accepted = a.0;
       counted = a.1;
-      buses = filled_to BusOf names before.buses after.buses (length names) n.buses a.1.buses c.fill-buses.ensures;
-      first = filled_to (Placed 𝓜 names) o.first.now before.first after.first (length o.first.now) n.first a.1.first c.fill-places.ensures;
-      second = filled_to (Placed 𝓝 names) o.second.now before.second after.second (length o.second.now) n.second a.1.second c.fill-places-2.ensures;
-      branches = filled_to (Joined names) o.branches.now before.branches after.branches (length o.branches.now) n.branches a.1.branches c.fill-branches.ensures;
+      buses = filled_to BusOf names before.buses after.buses (length names) n.buses a.1.buses c.fill_buses.ensures;
+      first = filled_to (Placed 𝓜 names) o.first.now before.first after.first (length o.first.now) n.first a.1.first c.fill_places.ensures;
+      second = filled_to (Placed 𝓝 names) o.second.now before.second after.second (length o.second.now) n.second a.1.second c.fill_places-2.ensures;
+      branches = filled_to (Joined names) o.branches.now before.branches after.branches (length o.branches.now) n.branches a.1.branches c.fill_branches.ensures;
     } in
     record { laid = done; formed = well_formed 𝓜 𝓝 o before after n done }

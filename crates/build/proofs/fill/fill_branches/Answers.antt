@@ -9,18 +9,18 @@ loop-i-init c = filled_none _ _ _
 
 pub unreachable-requires : goal.unreachable-requires
 unreachable-requires c =
-    c.requires.known c.loop-i.i (record { item = _; stands = stands_at c.args.rows.now c.loop-i.i _ c.loop-i-test.true; holds = c.in-default.ensures })
+    c.requires.known c.loop-i.i (record { item = _; stands = stands_at c.args.rows.now c.loop-i.i _ c.loop-i-test.true; holds = c.in_default.ensures })
 
-pub unreachable-requires-in-default-branch : goal.unreachable-requires-in-default-branch
-unreachable-requires-in-default-branch c =
+pub unreachable-requires-in_default-branch : goal.unreachable-requires-in_default-branch
+unreachable-requires-in_default-branch c =
     let stands = stands_at c.args.rows.now c.loop-i.i _ c.loop-i-test.true in
-    c.requires.ranges c.loop-i.i (record { item = _; stands = stands; holds = λ r. c.in-default-branch.ensures r (λ crossed. c.requires.uncrossed c.loop-i.i (record { item = _; stands = stands; holds = crossed })) })
+    c.requires.ranges c.loop-i.i (record { item = _; stands = stands; holds = λ r. c.in_default-branch.ensures r (λ crossed. c.requires.uncrossed c.loop-i.i (record { item = _; stands = stands; holds = crossed })) })
 
 pub loop-i-preserved : goal.loop-i-preserved
 loop-i-preserved c =
-    filled_more _ _ _ c.loop-i.table c.loop-i.i _ c.in-Some-branch.branch (omega arith)
+    filled_more _ _ _ c.loop-i.table c.loop-i.i _ c.in_Some-branch.branch (omega arith)
     (stands_at c.args.rows.now c.loop-i.i _ c.loop-i-test.true)
-    (joined c.args.buses.now.rows.now _ c.in-Some.ends c.in-Some-branch.branch c.in-Some.ensures c.in-Some-branch.ensures) c.loop-i.invariant
+    (joined c.args.buses.now.rows.now _ c.in-Some.ends c.in_Some-branch.branch c.in-Some.ensures c.in_Some-branch.ensures) c.loop-i.invariant
 
 pub returns : goal.returns
 returns c = filled_to _ _ _ _ _ _ (omega arith) c.loop-i.invariant

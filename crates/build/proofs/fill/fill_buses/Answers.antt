@@ -8,7 +8,7 @@ loop-i-init c = filled_none _ _ _
 
 pub unreachable-requires : goal.unreachable-requires
 unreachable-requires c =
-    c.requires.ranges c.loop-i.i (record { item = _; stands = stands_at c.args.rows.now c.loop-i.i _ c.loop-i-test.true; holds = c.in-default.ensures })
+    c.requires.ranges c.loop-i.i (record { item = _; stands = stands_at c.args.rows.now c.loop-i.i _ c.loop-i-test.true; holds = c.in_default.ensures })
 
 pub loop-i-preserved : goal.loop-i-preserved
 loop-i-preserved c =

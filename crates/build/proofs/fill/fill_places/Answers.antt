@@ -11,10 +11,10 @@ pub unreachable-requires : goal.unreachable-requires
 unreachable-requires g c =
     let machine = c.index-machines-i.result in
     let stands = stands_read c.args.machines.now c.loop-i.i machine c.loop-i-test.true c.index-machines-i.is in
-    c.requires.known c.loop-i.i (record { item = machine; stands = stands; holds = subst (Lacks c.args.buses.now.rows.now) c.bus.ensures c.in-default.ensures })
+    c.requires.known c.loop-i.i (record { item = machine; stands = stands; holds = subst (Lacks c.args.buses.now.rows.now) c.bus.ensures c.in_default.ensures })
 
-pub overflow-cast-table : goal.overflow-cast-table
-overflow-cast-table g c = omega (arith, c.requires.few, holds_below _ c.args.buses.now.rows.now c.in-Some.row c.in-Some.ensures.0)
+pub overflow_cast-table : goal.overflow_cast-table
+overflow_cast-table g c = omega (arith, c.requires.few, holds_below _ c.args.buses.now.rows.now c.in-Some.row c.in-Some.ensures.0)
 
 pub loop-i-preserved : goal.loop-i-preserved
 loop-i-preserved g c =

@@ -3,12 +3,12 @@ use Rattle.measure.proofs.Sums.{passed, holds_below}
 use Rattle.build.proofs.Standing.{stands_at, ends-known}
 use Rattle.build.proofs.places.check_branches.Goals as goal
 
-pub returns-in-default : goal.returns-in-default
-returns-in-default c =
+pub returns-in_default : goal.returns-in_default
+returns-in_default c =
     record {
       row = c.loop-i.i;
       is = refl;
-      lowest = (record { item = _; stands = stands_at c.args.branches.now c.loop-i.i _ c.loop-i-test.true; holds = c.in-default.ensures }, c.loop-i.invariant);
+      lowest = (record { item = _; stands = stands_at c.args.branches.now c.loop-i.i _ c.loop-i-test.true; holds = c.in_default.ensures }, c.loop-i.invariant);
     }
 
 pub loop-i-preserved : goal.loop-i-preserved

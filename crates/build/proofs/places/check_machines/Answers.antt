@@ -3,15 +3,15 @@ use Rattle.measure.proofs.Sums.{stands_read, passed, holds_below}
 use Rattle.build.specs.Offer.{HasBus, Lacks}
 use Rattle.build.proofs.places.check_machines.Goals as goal
 
-pub returns-in-default : goal.returns-in-default
-returns-in-default g c =
+pub returns-in_default : goal.returns-in_default
+returns-in_default g c =
     let buses = c.args.buses.now.rows.now in
     let machine = c.index-machines-i.result in
     let stands = stands_read c.args.machines.now c.loop-i.i machine c.loop-i-test.true c.index-machines-i.is in
     record {
       row = c.loop-i.i;
       is = refl;
-      lowest = (record { item = machine; stands = stands; holds = subst (Lacks buses) c.bus.ensures c.in-default.ensures }, c.loop-i.invariant);
+      lowest = (record { item = machine; stands = stands; holds = subst (Lacks buses) c.bus.ensures c.in_default.ensures }, c.loop-i.invariant);
     }
 
 pub loop-i-preserved : goal.loop-i-preserved
@@ -21,7 +21,7 @@ loop-i-preserved g c =
     let machine = c.index-machines-i.result in
     let stands = stands_read xs c.loop-i.i machine c.loop-i-test.true c.index-machines-i.is in
     below_more _ _ c.loop-i.invariant
-    (passed _ xs c.loop-i.i machine stands (λ lacks. lacks c.in-Some.-row (subst (λ k. HasBus buses k c.in-Some.-row) c.bus.ensures c.in-Some.ensures.0)))
+    (passed _ xs c.loop-i.i machine stands (λ lacks. lacks c.in-Some._row (subst (λ k. HasBus buses k c.in-Some.-row) c.bus.ensures c.in-Some.ensures.0)))
 
 pub returns : goal.returns
 returns g c i h =

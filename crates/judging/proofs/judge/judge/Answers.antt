@@ -8,50 +8,50 @@ use Rattle.judging.proofs.judge.judge.Goals as goal
 pub returns-in-Some : goal.returns-in-Some
 returns-in-Some g c =
     let h = c.in-Some.ensures in
-    let e = c.rows-used-buses.ensures in
+    let e = c.rows_used-buses.ensures in
     out_of_range g.M.Machine.meaning g.N.Machine.meaning g.met.M.Machine.lawful g.met.N.Machine.lawful (case_of c.args.case.now) (dispatch_of g.C.Column.value c.args.dispatch.now) c.in-Some.row
     ((subst (λ n. c.in-Some.row < n) e h.0.0, h.0.1), λ j l b. h.1 j l (subst (λ n. j < n) (sym e) b.0, b.1))
 
-pub returns-in-err-cost : goal.returns-in-err-cost
-returns-in-err-cost g c =
-    let p = err_from_is_err_and c.from-residual.result c.from-residual.ensures.1 in
+pub returns-in_err-cost : goal.returns-in_err-cost
+returns-in_err-cost g c =
+    let p = err_from_is_err_and c.from_residual.result c.from_residual.ensures.1 in
     rw (p.1, p.2)
-    (found.power_found g.M.Machine.meaning g.N.Machine.meaning g.met.M.Machine.lawful g.met.N.Machine.lawful c.args.case.now (dispatch_of g.C.Column.value c.args.dispatch.now) c.rows-used-buses.result c.rows-used-buses.ensures c.in-default.ensures c.in-err-cost.field-0.0 c.in-err-cost.ensures)
+    (found.power_found g.M.Machine.meaning g.N.Machine.meaning g.met.M.Machine.lawful g.met.N.Machine.lawful c.args.case.now (dispatch_of g.C.Column.value c.args.dispatch.now) c.rows_used-buses.result c.rows_used-buses.ensures c.in_default.ensures c.in_err-cost.field-0.0 c.in_err-cost.ensures)
 
-pub returns-in-Some-first-broken : goal.returns-in-Some-first-broken
-returns-in-Some-first-broken g c =
-    found.unbalanced_found g.M.Machine.meaning g.N.Machine.meaning g.met.M.Machine.lawful g.met.N.Machine.lawful c.args.case.now (dispatch_of g.C.Column.value c.args.dispatch.now) c.rows-used-buses.result c.rows-used-buses.ensures c.in-default.ensures c.in-ok-cost.ensures.0 c.in-Some-first-broken.row c.in-Some-first-broken.ensures.0
+pub returns-in-Some-first_broken : goal.returns-in-Some-first_broken
+returns-in-Some-first_broken g c =
+    found.unbalanced_found g.M.Machine.meaning g.N.Machine.meaning g.met.M.Machine.lawful g.met.N.Machine.lawful c.args.case.now (dispatch_of g.C.Column.value c.args.dispatch.now) c.rows_used-buses.result c.rows_used-buses.ensures c.in_default.ensures c.in_ok-cost.ensures.0 c.in-Some-first_broken.row c.in-Some-first_broken.ensures.0
 
-pub returns-in-Some-first-broken-2 : goal.returns-in-Some-first-broken-2
-returns-in-Some-first-broken-2 g c =
+pub returns-in-Some-first_broken-2 : goal.returns-in-Some-first_broken-2
+returns-in-Some-first_broken-2 g c =
     let 𝓜 = g.M.Machine.meaning in
     let 𝓝 = g.N.Machine.meaning in
     let h = g.met.M.Machine.lawful in
     let k = g.met.N.Machine.lawful in
     let v = c.args.case.now in
     let d = dispatch_of g.C.Column.value c.args.dispatch.now in
-    let n = c.rows-used-buses.result in
-    let e = c.rows-used-buses.ensures in
-    let r = c.in-default.ensures in
-    let a = c.in-ok-cost.ensures.0 in
-    found.overload_found 𝓜 𝓝 h k v d n e r a c.in-Some-first-broken-2.row
-    (found.balanced 𝓜 𝓝 h k v d n e r a c.in-default-first-broken.ensures) c.in-Some-first-broken-2.ensures.0
+    let n = c.rows_used-buses.result in
+    let e = c.rows_used-buses.ensures in
+    let r = c.in_default.ensures in
+    let a = c.in_ok-cost.ensures.0 in
+    found.overload_found 𝓜 𝓝 h k v d n e r a c.in-Some-first_broken-2.row
+    (found.balanced 𝓜 𝓝 h k v d n e r a c.in_default-first_broken.ensures) c.in-Some-first_broken-2.ensures.0
 
-pub returns-in-Some-first-broken-3 : goal.returns-in-Some-first-broken-3
-returns-in-Some-first-broken-3 g c =
+pub returns-in-Some-first_broken-3 : goal.returns-in-Some-first_broken-3
+returns-in-Some-first_broken-3 g c =
     let 𝓜 = g.M.Machine.meaning in
     let 𝓝 = g.N.Machine.meaning in
     let h = g.met.M.Machine.lawful in
     let k = g.met.N.Machine.lawful in
     let v = c.args.case.now in
     let d = dispatch_of g.C.Column.value c.args.dispatch.now in
-    let n = c.rows-used-buses.result in
-    let e = c.rows-used-buses.ensures in
-    let r = c.in-default.ensures in
-    let a = c.in-ok-cost.ensures.0 in
-    found.stretch_found 𝓜 𝓝 h k v d n e r a c.in-Some-first-broken-3.row
-    (found.balanced 𝓜 𝓝 h k v d n e r a c.in-default-first-broken.ensures)
-    (found.rated 𝓜 𝓝 h k v d n e r c.in-default-first-broken-2.ensures) c.in-Some-first-broken-3.ensures.0
+    let n = c.rows_used-buses.result in
+    let e = c.rows_used-buses.ensures in
+    let r = c.in_default.ensures in
+    let a = c.in_ok-cost.ensures.0 in
+    found.stretch_found 𝓜 𝓝 h k v d n e r a c.in-Some-first_broken-3.row
+    (found.balanced 𝓜 𝓝 h k v d n e r a c.in_default-first_broken.ensures)
+    (found.rated 𝓜 𝓝 h k v d n e r c.in_default-first_broken-2.ensures) c.in-Some-first_broken-3.ensures.0
 
 pub returns : goal.returns
 returns g c =
@@ -61,11 +61,11 @@ returns g c =
     let k = g.met.N.Machine.lawful in
     let v = c.args.case.now in
     let d = dispatch_of g.C.Column.value c.args.dispatch.now in
-    let n = c.rows-used-buses.result in
-    let e = c.rows-used-buses.ensures in
-    let r = c.in-default.ensures in
-    let a = c.in-ok-cost.ensures.0 in
-    found.all_kept 𝓜 𝓝 h k v d n e r a c.in-ok-cost.cost
-    (found.balanced 𝓜 𝓝 h k v d n e r a c.in-default-first-broken.ensures)
-    (found.rated 𝓜 𝓝 h k v d n e r c.in-default-first-broken-2.ensures)
-    (found.limited 𝓜 𝓝 h k v d n e r c.in-default-first-broken-3.ensures) c.in-ok-cost.ensures.1
+    let n = c.rows_used-buses.result in
+    let e = c.rows_used-buses.ensures in
+    let r = c.in_default.ensures in
+    let a = c.in_ok-cost.ensures.0 in
+    found.all_kept 𝓜 𝓝 h k v d n e r a c.in_ok-cost.cost
+    (found.balanced 𝓜 𝓝 h k v d n e r a c.in_default-first_broken.ensures)
+    (found.rated 𝓜 𝓝 h k v d n e r c.in_default-first_broken-2.ensures)
+    (found.limited 𝓜 𝓝 h k v d n e r c.in_default-first_broken-3.ensures) c.in_ok-cost.ensures.1

@@ -2,21 +2,21 @@ use Rattle.std.proofs.lemmas.Int.{to_z-of_z}
 use Rattle.pricing.proofs.Kept.{charged_sizes}
 use Rattle.pricing.proofs.charge.charged.Goals as goal
 
-pub overflow-mul-result : goal.overflow-mul-result
-overflow-mul-result c = simp (to_z-of_z, c.ranges.weight, c.ranges.shift) (charged_sizes _ _ _ _ _ c.requires).shifted
+pub overflow_mul-result : goal.overflow_mul-result
+overflow_mul-result c = simp (to_z-of_z, c.ranges.weight, c.ranges.shift) (charged_sizes _ _ _ _ _ c.requires).shifted
 
-pub overflow-mul-result-2 : goal.overflow-mul-result-2
-overflow-mul-result-2 c =
+pub overflow_mul-result-2 : goal.overflow_mul-result-2
+overflow_mul-result-2 c =
     let z = charged_sizes c.args.weight c.args.shift c.args.congestion c.args.rating c.args.angle c.requires in
     simp (c.size.ensures, to_z-of_z, c.ranges.congestion, c.ranges.rating, z.size) z.rated
 
-pub overflow-add-result : goal.overflow-add-result
-overflow-add-result c =
+pub overflow_add-result : goal.overflow_add-result
+overflow_add-result c =
     let z = charged_sizes c.args.weight c.args.shift c.args.congestion c.args.rating c.args.angle c.requires in
     simp (c.size.ensures, to_z-of_z, c.ranges.weight, c.ranges.shift, c.ranges.congestion, c.ranges.rating, z.size, z.shifted, z.rated) z.both
 
-pub overflow-add-result-2 : goal.overflow-add-result-2
-overflow-add-result-2 c =
+pub overflow_add-result-2 : goal.overflow_add-result-2
+overflow_add-result-2 c =
     let z = charged_sizes c.args.weight c.args.shift c.args.congestion c.args.rating c.args.angle c.requires in
     simp (c.size.ensures, to_z-of_z, c.ranges.weight, c.ranges.shift, c.ranges.congestion, c.ranges.rating, c.ranges.angle, z.size, z.shifted, z.rated, z.both) z.sum
 

@@ -1,4 +1,4 @@
-use Rattle.std.proofs.Common.{◌≡◌, sym, ◌∙◌, subst}
+use Rattle.std.proofs.Common.{sym, ◌∙◌, subst}
 use Rattle.measure.specs.Fraction.{whole, ◌≤ᶠ◌}
 use Rattle.network.specs.Model.{true_cost}
 use Rattle.network.specs.View.{case_of}
@@ -14,8 +14,8 @@ returns g c =
     let q = prices_of g.C.Column.value c.args.prices.now in
     let 𝓜 = g.M.Machine.meaning in
     let 𝓝 = g.N.Machine.meaning in
-    let l = c.in-ok-check.ensures in
-    let e = passed c.floor.result c.floor.type-inv ∙ c.floor.ensures ∙ floor_same k q l 𝓜 𝓝 in
+    let l = c.in_ok-check.ensures in
+    let e = passed c.floor.result c.floor.type_inv ∙ c.floor.ensures ∙ floor_same k q l 𝓜 𝓝 in
     record {
       lawful = l;
       exact = e;

@@ -1,18 +1,18 @@
-use Rattle.std.proofs.Common.{◌≡◌, ◌+ℤ◌, ◌-ℤ◌, ◌*ℤ◌, arith, w64}
+use Rattle.std.proofs.Common.{◌+ℤ◌, ◌-ℤ◌, ◌*ℤ◌, arith, w64}
 use Rattle.std.proofs.lemmas.Int.{to_z-of_z, to_z_pos}
 use Rattle.pricing.proofs.Kept.{passed_as, fits_as}
 use Rattle.pricing.proofs.Exact.{summed_sizes}
 use Rattle.pricing.proofs.floor.summed.Goals as goal
 
-pub overflow-mul-result : goal.overflow-mul-result
-overflow-mul-result c =
+pub overflow_mul-result : goal.overflow_mul-result
+overflow_mul-result c =
     let z = summed_sizes c.args.first c.args.second c.args.buses c.args.tolerance c.args.sizes c.args.charges c.requires in
     let t = to_z_pos w64 c.args.tolerance (omega (arith, c.ranges.tolerance)) in
     let s = to_z-of_z w64 c.args.sizes c.ranges.sizes in
     fits_as (λ i. t i *ℤ s i) z.tolerated
 
-pub overflow-sub-result : goal.overflow-sub-result
-overflow-sub-result c =
+pub overflow_sub-result : goal.overflow_sub-result
+overflow_sub-result c =
     let z = summed_sizes c.args.first c.args.second c.args.buses c.args.tolerance c.args.sizes c.args.charges c.requires in
     let f = to_z-of_z w64 c.args.first c.ranges.first in
     let g = to_z-of_z w64 c.args.second c.ranges.second in
@@ -24,8 +24,8 @@ overflow-sub-result c =
     let e = passed_as (λ i. d i +ℤ b i) z.buses in
     fits_as (λ i. e i -ℤ m i) z.less
 
-pub overflow-sub-result-2 : goal.overflow-sub-result-2
-overflow-sub-result-2 c =
+pub overflow_sub-result-2 : goal.overflow_sub-result-2
+overflow_sub-result-2 c =
     let z = summed_sizes c.args.first c.args.second c.args.buses c.args.tolerance c.args.sizes c.args.charges c.requires in
     let f = to_z-of_z w64 c.args.first c.ranges.first in
     let g = to_z-of_z w64 c.args.second c.ranges.second in

@@ -1,4 +1,4 @@
-use Rattle.std.proofs.Common.{◌≡◌, false, List, get_or, take, pos, ap, ◌∙◌, subst}
+use Rattle.std.proofs.Common.{false, List, get_or, take, pos, ap, ◌∙◌, subst}
 use Rattle.network.specs.declared.branch.Branch.{Branch}
 use Rattle.network.specs.View.{group_of}
 use Rattle.pricing.specs.Kept.{prices_of}

@@ -6,4 +6,4 @@ use Rattle.pricing.proofs.outage.row_of.Goals as goal
 
 pub returns : goal.returns
 returns c =
-    subst (λ (xs : List Branch). Lowest (HoldsAt (HasName ◌≡◌ (λ (b : Branch). b.name) c.args.name.now) xs) c.find.result) c.first-rows-rows.ensures c.find.ensures
+    subst (λ (xs : List Branch). Lowest (HoldsAt (HasName ◌≡◌ (λ (b : Branch). b.name) c.args.name.now) xs) c.find.result) c.first_rows-rows.ensures c.find.ensures

@@ -1,13 +1,13 @@
-use Rattle.std.proofs.Common.{◌≡◌, ℤ, ◌+ℤ◌, ◌-ℤ◌, sym, ◌∙◌, arith, w64, SFits, rules}
+use Rattle.std.proofs.Common.{◌≡◌, ℤ, ◌+ℤ◌, ◌-ℤ◌, ◌∙◌, arith, w64, SFits}
 use borrow.Author.Differences.{ints}
 use Rattle.std.proofs.lemmas.Int.{to_z-of_z}
 use Rattle.judging.proofs.balance.Balance.mismatch.Goals as goal
 
 pub net-requires : goal.net-requires
 net-requires g c =
-    let f = to_z-of_z w64 c.total.result (record { sfits = c.total.type-inv }) in
-    let s = to_z-of_z w64 c.total-2.result (record { sfits = c.total-2.type-inv }) in
-    let o = to_z-of_z w64 c.total-3.result (record { sfits = c.total-3.type-inv }) in
+    let f = to_z-of_z w64 c.total.result (record { sfits = c.total.type_inv }) in
+    let s = to_z-of_z w64 c.total-2.result (record { sfits = c.total-2.type_inv }) in
+    let o = to_z-of_z w64 c.total-3.result (record { sfits = c.total-3.type_inv }) in
     let k = c.args.bus.now.ok in
     record {
       first_range = rw f c.total.ensures.small;
@@ -23,10 +23,10 @@ nets a b c d a' b' d' r e p q s = omega (arith, ints)
 pub returns : goal.returns
 returns g c =
     let k = c.args.bus.now.ok in
-    let f = to_z-of_z w64 c.total.result (record { sfits = c.total.type-inv }) ∙ c.total.ensures.exact in
-    let s = to_z-of_z w64 c.total-2.result (record { sfits = c.total-2.type-inv }) ∙ c.total-2.ensures.exact in
-    let o = to_z-of_z w64 c.total-3.result (record { sfits = c.total-3.type-inv }) ∙ c.total-3.ensures.exact in
+    let f = to_z-of_z w64 c.total.result (record { sfits = c.total.type_inv }) ∙ c.total.ensures.exact in
+    let s = to_z-of_z w64 c.total-2.result (record { sfits = c.total-2.type_inv }) ∙ c.total-2.ensures.exact in
+    let o = to_z-of_z w64 c.total-3.result (record { sfits = c.total-3.type_inv }) ∙ c.total-3.ensures.exact in
     let h : SFits w64 c.args.bus.now.demand.0 = omega (arith, ints, k.1) in
     let d = to_z-of_z w64 c.args.bus.now.demand.0 h in
-    to_z-of_z w64 c.net.result (record { sfits = c.net.type-inv })
+    to_z-of_z w64 c.net.result (record { sfits = c.net.type_inv })
     ∙ nets _ _ c.args.bus.now.demand.0 _ _ _ _ _ (rw d at c.net.ensures) f s o

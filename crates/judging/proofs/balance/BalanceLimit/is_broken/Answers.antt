@@ -1,4 +1,4 @@
-use Rattle.std.proofs.Common.{◌≡◌, false, not, ℤ, pos, neg_ℤ, sym, ap, ◌∙◌, w64}
+use Rattle.std.proofs.Common.{false, not, pos, neg_ℤ, sym, ap, ◌∙◌, w64}
 use Rattle.std.proofs.lemmas.Int.{to_z-of_z}
 use Rattle.measure.specs.Range.{between}
 use Rattle.measure.specs.Rows.{Row}
@@ -16,8 +16,8 @@ returns-then-row-self g c =
     let E = pos s.case.tolerance in
     row_is false f s.case.buses.now c.args.row _ c.if-row-self.true
     (λ x k.
-    c.is-beyond.ensures
-    ∙ ap (λ z. not (between (neg_ℤ E) E z)) (to_z-of_z w64 c.mismatch.result (record { sfits = c.mismatch.type-inv }) ∙ c.mismatch.ensures)
+    c.is_beyond.ensures
+    ∙ ap (λ z. not (between (neg_ℤ E) E z)) (to_z-of_z w64 c.mismatch.result (record { sfits = c.mismatch.type_inv }) ∙ c.mismatch.ensures)
     ∙ ap (λ (b : Bus). f (record { item = b; row = c.args.row })) (sym (stands-get_or s.case.buses.now c.args.row x _ k)))
 
 pub returns-else-row-self : goal.returns-else-row-self

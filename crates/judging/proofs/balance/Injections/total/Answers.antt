@@ -19,7 +19,7 @@ returns g c =
     let place : ℕ → ℕ = λ i. get_or s.machines.places.now i 0 in
     let p = g.C.Column.value s.powers.now in
     let f = given_at place p s.bus in
-    let e = to_z-of_z w64 c.sum.result (record { sfits = c.sum.type-inv }) ∙ c.sum.ensures ∙ sum_rows f s.machines.rows.now s.machines.count in
+    let e = to_z-of_z w64 c.sum.result (record { sfits = c.sum.type_inv }) ∙ c.sum.ensures ∙ sum_rows f s.machines.rows.now s.machines.count in
     let h : Fits w8 c.args.self.now.machines.count = search rules in
     let n : c.args.self.now.machines.count ≤ 255 = omega arith in
     record {

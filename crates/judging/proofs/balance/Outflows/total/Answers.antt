@@ -17,7 +17,7 @@ returns g c =
     let s = c.args.self.now in
     let θ = g.C.Column.value s.angles.given.now in
     let f = outflow_row (angle_of s.angles.buses θ) s.bus in
-    let e = to_z-of_z w64 c.sum.result (record { sfits = c.sum.type-inv }) ∙ c.sum.ensures ∙ sum_rows f s.branches.now c.args.count in
+    let e = to_z-of_z w64 c.sum.result (record { sfits = c.sum.type_inv }) ∙ c.sum.ensures ∙ sum_rows f s.branches.now c.args.count in
     let n = c.ranges.count in
     record {
       small = rw e (few_within 16000000000000 f s.branches.now c.args.count (omega arith) (λ r. outflow_within s.angles.buses θ r.item s.bus));

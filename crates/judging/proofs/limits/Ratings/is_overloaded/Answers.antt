@@ -1,4 +1,4 @@
-use Rattle.std.proofs.Common.{◌≡◌, not, ◌&&◌, ℤ, pos, neg_ℤ, ap, ◌∙◌, ap₂, arith, w64, SFits, to_z, of_z}
+use Rattle.std.proofs.Common.{◌≡◌, not, ◌&&◌, ℤ, pos, neg_ℤ, ap, ◌∙◌, arith, w64, SFits, to_z, of_z}
 use borrow.Author.Differences.{ints}
 use lib.Signed.{lt_z}
 use Rattle.std.proofs.lemmas.Int.{to_z-of_z}
@@ -17,4 +17,4 @@ returns g c =
     let k = c.args.branch.now.rated in
     let h : SFits w64 F = omega (arith, ints, k.0, k.1) in
     let n : to_z w64 (of_z w64 (lib.IntN.◌-ℤ◌ (pos 0) (to_z w64 (of_z w64 F)))) ≡ neg_ℤ F = omega (arith, ints, k.0, k.1) in
-    same_test _ _ _ _ _ _ _ _ (to_z-of_z w64 F h) n (to_z-of_z w64 c.flow.result (record { sfits = c.flow.type-inv }) ∙ c.flow.ensures) c.is-between.ensures
+    same_test _ _ _ _ _ _ _ _ (to_z-of_z w64 F h) n (to_z-of_z w64 c.flow.result (record { sfits = c.flow.type_inv }) ∙ c.flow.ensures) c.is_between.ensures

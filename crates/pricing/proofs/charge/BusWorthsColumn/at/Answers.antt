@@ -1,4 +1,4 @@
-use Rattle.std.proofs.Common.{◌≡◌, pos, sym, ap, ◌∙◌}
+use Rattle.std.proofs.Common.{pos, sym, ap, ◌∙◌}
 use Rattle.measure.proofs.Sums.{row_is, row_past, stands-get_or}
 use Rattle.network.specs.declared.bus.Bus.{Bus}
 use Rattle.network.specs.View.{case_of}
@@ -11,7 +11,7 @@ returns-then-row-self g c =
     let s = c.args.self.now in
     let f = bus_worth (case_of s.priced.case) (kept_prices (prices_of g.C.Column.value s.priced.prices.now)) in
     row_is (pos 0) f s.priced.case.buses.now c.args.row _ c.if-row-self.true
-    (λ x k. passed c.bus_worth.result c.bus_worth.type-inv ∙ c.bus_worth.ensures ∙ ap (λ (b : Bus). f (record { item = b; row = c.args.row })) (sym (stands-get_or s.priced.case.buses.now c.args.row x _ k)))
+    (λ x k. passed c.bus_worth.result c.bus_worth.type_inv ∙ c.bus_worth.ensures ∙ ap (λ (b : Bus). f (record { item = b; row = c.args.row })) (sym (stands-get_or s.priced.case.buses.now c.args.row x _ k)))
 
 pub returns-else-row-self : goal.returns-else-row-self
 returns-else-row-self g c = sym (row_past (pos 0) _ 0 c.args.self.now.priced.case.buses.now c.args.row c.if-row-self.false)

@@ -1,4 +1,4 @@
-use Rattle.std.proofs.Common.{◌≡◌, Bool, false, not, ◌&&◌, eqb, sym, ap, ◌∙◌, w64, of_z}
+use Rattle.std.proofs.Common.{false, not, ◌&&◌, eqb, sym, ap, ◌∙◌, w64, of_z}
 use Rattle.measure.proofs.Sums.{row_is, row_past, stands-get_or}
 use Rattle.network.specs.declared.branch.Branch.{Branch}
 use Rattle.pricing.specs.Kept.{prices_of, unrated, is_zero}
@@ -14,7 +14,7 @@ returns-then-row-self g c =
     (λ x k.
     let b = sym (stands-get_or s.branches.now c.args.row x _ k) in
     let r = ap (λ (y : Branch). eqb (of_z w64 y.rating.0) 0) b ∙ zero_bits x.rating.0 (rating_fits x).sfits in
-    let m = zero_bits c.at.result c.at.type-inv ∙ ap is_zero c.at.ensures in
+    let m = zero_bits c.at.result c.at.type_inv ∙ ap is_zero c.at.ensures in
     (λ i. (b i).service && r i && not (m i)))
 
 pub returns-else-row-self : goal.returns-else-row-self

@@ -1,4 +1,4 @@
-use Rattle.std.proofs.Common.{◌≡◌, Bool, false, not, ◌&&◌, ℤ, pos, neg_ℤ, sym, ap, ◌∙◌}
+use Rattle.std.proofs.Common.{Bool, false, not, ◌&&◌, ℤ, pos, neg_ℤ, sym, ap, ◌∙◌}
 use Rattle.measure.specs.Range.{between}
 use Rattle.measure.proofs.Sums.{row_is, row_past, stands-get_or}
 use Rattle.network.specs.declared.branch.Branch.{Branch}
@@ -19,7 +19,7 @@ returns-then-row-self g c =
     row_is false (overweight (case_of s.priced.case) q) s.priced.case.branches.now c.args.row _ c.if-row-self.true
     (λ x k.
     let b = sym (stands-get_or s.priced.case.branches.now c.args.row x _ k) in
-    let w = c.is-between.ensures ∙ ap light (passed c.weight.result c.weight.type-inv ∙ c.weight.ensures ∙ ap (λ (y : Branch). weight (case_of s.priced.case) q (record { item = y; row = c.args.row })) b) in
+    let w = c.is_between.ensures ∙ ap light (passed c.weight.result c.weight.type_inv ∙ c.weight.ensures ∙ ap (λ (y : Branch). weight (case_of s.priced.case) q (record { item = y; row = c.args.row })) b) in
     (λ i. (b i).service && not (w i)))
 
 pub returns-else-row-self : goal.returns-else-row-self

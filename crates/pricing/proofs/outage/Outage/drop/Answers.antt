@@ -3,8 +3,8 @@ use Rattle.network.specs.declared.branch.Branch.{Branch}
 use Rattle.pricing.proofs.Outages.{marked-as, set_mark}
 use Rattle.pricing.proofs.outage.Outage.drop.Goals as goal
 
-pub invariant-of-self : goal.invariant-of-self
-invariant-of-self c d =
+pub invariant_of-self : goal.invariant_of-self
+invariant_of-self c d =
     let b : Branch = get_or c.args.self.rows.now c.args.self.row d in
     (b.named, (b.susceptible, (b.shifted, (b.rated, (b.limited, tt)))))
 

@@ -1,4 +1,4 @@
-use Rattle.std.proofs.Common.{◌≡◌, cond, ℤ, ◌+ℤ◌, ◌*ℤ◌, ap, ◌∙◌, lit<, w64}
+use Rattle.std.proofs.Common.{cond, ℤ, ◌+ℤ◌, ◌*ℤ◌, ap, ◌∙◌, lit<, w64}
 use lib.Signed.{non_neg}
 use Rattle.std.proofs.lemmas.Int.{to_z-of_z}
 use Rattle.measure.specs.Range.{∣◌∣}
@@ -19,12 +19,12 @@ unfolding angle_charge
 charged-requires g c =
     let s = c.args.self.now in
     let b = c.args.branch.now in
-    let k = passed c.keep-weight.result c.keep-weight.type-inv ∙ c.keep-weight.ensures ∙ ap kept_weight (passed c.weight.result c.weight.type-inv ∙ c.weight.ensures) in
-    let n = passed c.angle-price-at.result c.angle-price-at.type-inv ∙ c.angle-price-at.ensures in
+    let k = passed c.keep-weight.result c.keep-weight.type_inv ∙ c.keep-weight.ensures ∙ ap kept_weight (passed c.weight.result c.weight.type_inv ∙ c.weight.ensures) in
+    let n = passed c.angle_price_at.result c.angle_price_at.type_inv ∙ c.angle_price_at.ensures in
     let l = to_z-of_z w64 b.angmin.0 (fits 6400000 _ (lit< tt) b.limited.0) in
     let u = to_z-of_z w64 b.angmax.0 (fits 6400000 _ (lit< tt) b.limited.1) in
-    let h = passed c.stretched-angle.result c.stretched-angle.type-inv ∙ c.stretched-angle.ensures ∙ (λ i. stretch (n i) (l i) (u i)) in
-    let m = passed c.congestion-at.result c.congestion-at.type-inv ∙ c.congestion-at.ensures in
+    let h = passed c.stretched-angle.result c.stretched-angle.type_inv ∙ c.stretched-angle.ensures ∙ (λ i. stretch (n i) (l i) (u i)) in
+    let m = passed c.congestion_at.result c.congestion_at.type_inv ∙ c.congestion_at.ensures in
     rw (k, to_z-of_z w64 b.shift.0 (shift_fits b), m, to_z-of_z w64 b.rating.0 (rating_fits b), h)
     (charged_by (case_of s.case) (prices_of g.C.Column.value s.prices.now) (record { item = b; row = c.args.row }))
 
@@ -32,13 +32,13 @@ pub returns : goal.returns
 unfolding kept_charge angle_charge
 returns g c =
     let b = c.args.branch.now in
-    let k = passed c.keep-weight.result c.keep-weight.type-inv ∙ c.keep-weight.ensures ∙ ap kept_weight (passed c.weight.result c.weight.type-inv ∙ c.weight.ensures) in
-    let n = passed c.angle-price-at.result c.angle-price-at.type-inv ∙ c.angle-price-at.ensures in
+    let k = passed c.keep-weight.result c.keep-weight.type_inv ∙ c.keep-weight.ensures ∙ ap kept_weight (passed c.weight.result c.weight.type_inv ∙ c.weight.ensures) in
+    let n = passed c.angle_price_at.result c.angle_price_at.type_inv ∙ c.angle_price_at.ensures in
     let l = to_z-of_z w64 b.angmin.0 (fits 6400000 _ (lit< tt) b.limited.0) in
     let u = to_z-of_z w64 b.angmax.0 (fits 6400000 _ (lit< tt) b.limited.1) in
-    let h = passed c.stretched-angle.result c.stretched-angle.type-inv ∙ c.stretched-angle.ensures ∙ (λ i. stretch (n i) (l i) (u i)) in
-    let m = passed c.congestion-at.result c.congestion-at.type-inv ∙ c.congestion-at.ensures in
+    let h = passed c.stretched-angle.result c.stretched-angle.type_inv ∙ c.stretched-angle.ensures ∙ (λ i. stretch (n i) (l i) (u i)) in
+    let m = passed c.congestion_at.result c.congestion_at.type_inv ∙ c.congestion_at.ensures in
     let s = to_z-of_z w64 b.shift.0 (shift_fits b) in
     let f = to_z-of_z w64 b.rating.0 (rating_fits b) in
-    passed c.only-if.result c.only-if.type-inv ∙ c.only-if.ensures
-    ∙ ap (only b.service) (passed c.charged.result c.charged.type-inv ∙ c.charged.ensures ∙ (λ i. k i *ℤ s i +ℤ ∣ m i ∣ *ℤ f i +ℤ h i))
+    passed c.only_if.result c.only_if.type_inv ∙ c.only_if.ensures
+    ∙ ap (only b.service) (passed c.charged.result c.charged.type_inv ∙ c.charged.ensures ∙ (λ i. k i *ℤ s i +ℤ ∣ m i ∣ *ℤ f i +ℤ h i))

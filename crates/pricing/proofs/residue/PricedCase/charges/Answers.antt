@@ -17,7 +17,7 @@ returns g c =
     let s = c.args.self.now in
     let q = prices_of g.C.Column.value s.prices.now in
     let f = kept_charge (case_of s.case) (kept_prices q) in
-    let e = passed c.sum.result c.sum.type-inv ∙ c.sum.ensures ∙ sum_rows f s.case.branches.now s.case.nl in
+    let e = passed c.sum.result c.sum.type_inv ∙ c.sum.ensures ∙ sum_rows f s.case.branches.now s.case.nl in
     let h : Fits w8 c.args.self.now.case.nl = search rules in
     let n : c.args.self.now.case.nl ≤ 255 = omega arith in
     record {

@@ -1,4 +1,4 @@
-use Rattle.std.proofs.Common.{◌≡◌, ℕ, ◌≤◌, length, get_or, take, ℤ, ap, ◌∙◌, arith, lit<, w8, Fits, rules}
+use Rattle.std.proofs.Common.{ℕ, ◌≤◌, length, get_or, take, ℤ, ap, ◌∙◌, arith, lit<, w8, Fits, rules}
 use Rattle.std.proofs.lemmas.List.{length-take}
 use Rattle.measure.proofs.Sizes.{fits}
 use Rattle.machine.specs.Group.{total_margins}
@@ -9,13 +9,13 @@ use Rattle.pricing.specs.Kept.{prices_of, kept_prices}
 use Rattle.pricing.proofs.Kept.{passed_as, price_within}
 use Rattle.pricing.proofs.residue.PricedCase.margins.Goals as goal
 
-pub total-margin-requires : goal.total-margin-requires
-total-margin-requires g c =
+pub total_margin-requires : goal.total_margin-requires
+total_margin-requires g c =
     let s = c.args.self.now in
     let m = c.args.machines in
     let h : Fits w8 c.args.machines.count = search rules in
     let n = length-take m.count m.rows.now in
-    let l = ap length c.first-rows.ensures in
+    let l = ap length c.first_rows.ensures in
     record {
       few = omega arith;
       priced = λ i k. price_within (case_of s.case) (prices_of g.C.Column.value s.prices.now) (get_or m.places.now i 0);
@@ -32,5 +32,5 @@ returns g c =
     let n = length-take m.count m.rows.now in
     let f : length ms ≤ 255 = omega arith in
     let w = total_margins_within g.K.Machine.meaning g.met.K.Machine.lawful ms 255 f L (λ i k. price_within (case_of s.case) q (get_or m.places.now i 0)) in
-    let e = passed_as (c.total-margin.ensures ∙ ap (λ (xs : _). total_margins g.K.Machine.meaning xs L) c.first-rows.ensures) (fits 255000000000000000 _ (lit< tt) w) in
+    let e = passed_as (c.total_margin.ensures ∙ ap (λ (xs : _). total_margins g.K.Machine.meaning xs L) c.first_rows.ensures) (fits 255000000000000000 _ (lit< tt) w) in
     record { small = rw e w; exact = e }

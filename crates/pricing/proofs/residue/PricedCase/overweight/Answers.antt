@@ -9,4 +9,4 @@ returns g c =
     let s = c.args.self.now in
     let k = case_of s.case in
     let q = kept_prices (prices_of g.C.Column.value s.prices.now) in
-    lowest_row (overweight k q) (HeavyBranch k q) (overweight_true k q) (true_overweight k q) s.case.branches.now s.case.nl c.first-broken.result c.first-broken.ensures
+    lowest_row (overweight k q) (HeavyBranch k q) (overweight_true k q) (true_overweight k q) s.case.branches.now s.case.nl c.first_broken.result c.first_broken.ensures

@@ -17,7 +17,7 @@ returns g c =
     let s = c.args.self.now in
     let q = prices_of g.C.Column.value s.prices.now in
     let f = price_size (case_of s.case) (kept_prices q) in
-    let e = passed c.sum.result c.sum.type-inv ∙ c.sum.ensures ∙ sum_rows f s.case.buses.now s.case.nb in
+    let e = passed c.sum.result c.sum.type_inv ∙ c.sum.ensures ∙ sum_rows f s.case.buses.now s.case.nb in
     let h : Fits w8 c.args.self.now.case.nb = search rules in
     let n : c.args.self.now.case.nb ≤ 255 = omega arith in
     record {

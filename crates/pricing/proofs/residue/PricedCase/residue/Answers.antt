@@ -16,7 +16,7 @@ pub returns : goal.returns
 returns g c =
     let s = c.args.self.now in
     let q = kept_prices (prices_of g.C.Column.value s.prices.now) in
-    to_z-of_z w64 c.sum.result (record { sfits = c.sum.type-inv })
+    to_z-of_z w64 c.sum.result (record { sfits = c.sum.type_inv })
     ∙ c.sum.ensures
     ∙ sum_rows (share (case_of s.case) q c.args.bus) s.case.branches.now s.case.nl
     ∙ residue-shares (case_of s.case) q c.args.bus

@@ -10,4 +10,4 @@ returns g c =
     let s = c.args.self.now in
     let k = case_of s.case in
     let q = kept_prices (prices_of g.C.Column.value s.prices.now) in
-    residue_lowest k q c.first-broken.result (subst (λ n. Lowest (λ i. (i < n) × (residue_beyond k q i ≡ true)) c.first-broken.result) c.rows-used-buses.ensures c.first-broken.ensures)
+    residue_lowest k q c.first_broken.result (subst (λ n. Lowest (λ i. (i < n) × (residue_beyond k q i ≡ true)) c.first_broken.result) c.rows_used-buses.ensures c.first_broken.ensures)

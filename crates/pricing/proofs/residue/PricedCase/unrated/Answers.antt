@@ -7,4 +7,4 @@ pub returns : goal.returns
 returns g c =
     let s = c.args.self.now in
     let q = prices_of g.C.Column.value s.prices.now in
-    lowest_row (unrated q) (UnratedBranch q) (unrated_true q) (true_unrated q) s.case.branches.now s.case.nl c.first-broken.result c.first-broken.ensures
+    lowest_row (unrated q) (UnratedBranch q) (unrated_true q) (true_unrated q) s.case.branches.now s.case.nl c.first_broken.result c.first_broken.ensures

@@ -1,4 +1,4 @@
-use Rattle.std.proofs.Common.{◌≡◌, ◌+ℤ◌, ◌-ℤ◌, ◌*ℤ◌, ◌∙◌, w64}
+use Rattle.std.proofs.Common.{◌+ℤ◌, ◌-ℤ◌, ◌*ℤ◌, ◌∙◌, w64}
 use Rattle.std.proofs.lemmas.Int.{to_z-of_z}
 use Rattle.network.specs.Floor.{weight}
 use Rattle.network.specs.View.{case_of}
@@ -12,9 +12,9 @@ weighed-requires g c =
     let b = c.args.branch.now in
     rw (
       to_z-of_z w64 b.susceptance (susceptance_fits b),
-      passed c.price_at.result c.price_at.type-inv ∙ c.price_at.ensures,
-      passed c.price-at-2.result c.price-at-2.type-inv ∙ c.price-at-2.ensures,
-      passed c.congestion-at.result c.congestion-at.type-inv ∙ c.congestion-at.ensures,
+      passed c.price_at.result c.price_at.type_inv ∙ c.price_at.ensures,
+      passed c.price_at-2.result c.price_at-2.type_inv ∙ c.price_at-2.ensures,
+      passed c.congestion_at.result c.congestion_at.type_inv ∙ c.congestion_at.ensures,
     )
     (weighed_by (case_of s.case) (prices_of g.C.Column.value s.prices.now) (record { item = b; row = c.args.row }))
 
@@ -23,7 +23,7 @@ unfolding weight
 returns g c =
     let b = c.args.branch.now in
     let e = to_z-of_z w64 b.susceptance (susceptance_fits b) in
-    let f = passed c.price_at.result c.price_at.type-inv ∙ c.price_at.ensures in
-    let t = passed c.price-at-2.result c.price-at-2.type-inv ∙ c.price-at-2.ensures in
-    let m = passed c.congestion-at.result c.congestion-at.type-inv ∙ c.congestion-at.ensures in
-    passed c.weighed.result c.weighed.type-inv ∙ c.weighed.ensures ∙ (λ i. e i *ℤ (f i -ℤ t i +ℤ m i))
+    let f = passed c.price_at.result c.price_at.type_inv ∙ c.price_at.ensures in
+    let t = passed c.price_at-2.result c.price_at-2.type_inv ∙ c.price_at-2.ensures in
+    let m = passed c.congestion_at.result c.congestion_at.type_inv ∙ c.congestion_at.ensures in
+    passed c.weighed.result c.weighed.type_inv ∙ c.weighed.ensures ∙ (λ i. e i *ℤ (f i -ℤ t i +ℤ m i))

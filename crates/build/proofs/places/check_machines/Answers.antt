@@ -21,7 +21,7 @@ loop-i-preserved g c =
     let machine = c.index-machines-i.result in
     let stands = stands_read xs c.loop-i.i machine c.loop-i-test.true c.index-machines-i.is in
     below_more _ _ c.loop-i.invariant
-    (passed _ xs c.loop-i.i machine stands (λ lacks. lacks c.in-Some._row (subst (λ k. HasBus buses k c.in-Some.-row) c.bus.ensures c.in-Some.ensures.0)))
+    (passed _ xs c.loop-i.i machine stands (λ lacks. lacks c.in-Some._row (subst (λ k. HasBus buses k c.in-Some._row) c.bus.ensures c.in-Some.ensures.0)))
 
 pub returns : goal.returns
 returns g c i h =

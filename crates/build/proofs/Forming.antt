@@ -1,7 +1,7 @@
 -- A case that is laid is well formed.
-use Rattle.std.proofs.Common.{◌≡◌, ℕ, ◌≤◌, List, length, get_or, take, sym, refl, ap, ◌∙◌, subst, inl, inr, arith}
+use Rattle.std.proofs.Common.{◌≡◌, ℕ, ◌≤◌, List, length, get_or, take, sym, ap, ◌∙◌, subst, inr, arith}
 use Rattle.std.proofs.lemmas.List.{length-take}
-use Rattle.measure.specs.Rows.{Stands, HoldsAt}
+use Rattle.measure.specs.Rows.{Stands}
 use Rattle.measure.proofs.Sums.{stands_one, stands-get_or}
 use Rattle.names.specs.declared.branch.BranchName.{BranchName}
 use Rattle.names.specs.Names.{Distinct}

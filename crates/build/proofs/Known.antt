@@ -1,5 +1,5 @@
 -- Rows whose bus is not offered, counted on through both groups and the branches.
-use Rattle.std.proofs.Common.{◌≡◌, ℕ, ◌+◌, ◌<◌, ◌⊎◌, length, Some, None, sym, refl, ap, ◌∙◌, subst, inl, inr, zero-add, arith}
+use Rattle.std.proofs.Common.{ℕ, ◌+◌, ◌<◌, length, None, sym, refl, ap, ◌∙◌, subst, inl, inr, zero-add, arith}
 use Rattle.measure.specs.Rows.{Lowest}
 use Rattle.measure.proofs.Sums.{holds_below}
 use Rattle.machine.specs.Meaning.{Meaning}

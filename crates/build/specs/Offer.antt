@@ -1,6 +1,6 @@
 -- What is offered, and which refusal it meets: the tests in their order, each by the lowest row that fails it.
 use Rattle.std.specs.Prelude.{◌≡◌, ℕ, ◌+◌, ◌≤◌, ◌⊎◌, List, length, pos, ◌≤ℤ◌, Some, None}
-use Rattle.measure.specs.Rows.{Row, HoldsAt, Lowest}
+use Rattle.measure.specs.Rows.{HoldsAt, Lowest}
 use Rattle.names.specs.Names.{HasName, Repeats}
 use Rattle.machine.specs.Meaning.{Meaning}
 use Rattle.network.specs.declared.branch.Ends.{Ends}

@@ -1,5 +1,5 @@
 -- Raw rows, in which any numbers may stand: their ranges, and the bus or the branch that a row in range is.
-use Rattle.std.specs.Prelude.{◌≡◌, ℕ, ℤ, pos, ◌≤ℤ◌, ◌<ℤ◌}
+use Rattle.std.specs.Prelude.{◌≡◌, pos, ◌≤ℤ◌, ◌<ℤ◌}
 use Rattle.measure.specs.Range.{Within}
 use Rattle.network.specs.Ranges.{NameRange, BusRanges}
 use Rattle.network.specs.declared.bus.Bus.{Bus}

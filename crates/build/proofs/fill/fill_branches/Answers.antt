@@ -1,5 +1,4 @@
-use Rattle.std.proofs.Common.{sym, ap, subst, arith}
-use Rattle.network.specs.declared.branch.Ends.{Ends}
+use Rattle.std.proofs.Common.{arith}
 use Rattle.build.proofs.Standing.{stands_at, joined}
 use Rattle.build.proofs.Filling.{filled_none, filled_more, filled_to}
 use Rattle.build.proofs.fill.fill_branches.Goals as goal

@@ -3,6 +3,7 @@ use crate::tables::*;
 use curved::curved::Curved;
 use machine::machine::Machine;
 use measure::Watts;
+use std::test::Fail;
 
 // Margins at the limits, rounded down; costs rounded up.
 #[test]

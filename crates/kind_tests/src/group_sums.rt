@@ -7,6 +7,7 @@ use measure::Watts;
 use measure::column::Table;
 use measure::price::Price;
 use std::process::Abort;
+use std::test::Fail;
 use stepped::stepped::Stepped;
 
 // The powers of two machines, and the sum of their costs or the row of one that does not allow its power.
@@ -19,6 +20,7 @@ fn cost_of_two<M: Machine>(machines: &[M; 2], first: i64, second: i64) -> Result
     Ok(grains.0)
 }
 
+#[cfg(test)]
 fn check_costs_of_two<M: Machine>(
     rt: &impl Abort,
     machines: &[M; 2],
@@ -40,6 +42,7 @@ fn margin_of_two<M: Machine>(machines: &[M; 2], first: Price, second: Price) -> 
     total_margin(machines, &Table { values: &prices }).0
 }
 
+#[cfg(test)]
 fn check_margins_of_two<M: Machine>(
     rt: &impl Abort,
     machines: &[M; 2],

@@ -2,6 +2,7 @@
 use crate::tables::*;
 use machine::machine::Machine;
 use measure::Watts;
+use std::test::Fail;
 use stepped::stepped::Stepped;
 
 // The first and the last slope go on outside the points.

@@ -13,6 +13,7 @@ pub struct AtPower(pub i64, pub Option<i64>);
 #[derive(Clone, Copy)]
 pub struct AtPrice(pub i64, pub i64);
 
+#[cfg(test)]
 pub(crate) fn check_costs<M: Machine>(
     rt: &impl Abort,
     machine: &M,
@@ -30,6 +31,7 @@ pub(crate) fn check_costs<M: Machine>(
     Ok(())
 }
 
+#[cfg(test)]
 pub(crate) fn check_margins<M: Machine>(
     rt: &impl Abort,
     machine: &M,
@@ -46,6 +48,7 @@ pub(crate) fn check_margins<M: Machine>(
 }
 
 // Each machine allows only 0 W, at cost 0.
+#[cfg(test)]
 pub(crate) fn check_idle<M: Machine>(rt: &impl Abort, machines: &[M]) -> Result<(), Fail> {
     for machine in machines {
         check_costs(

@@ -10,14 +10,14 @@ once c = product_fits 500 100000000 c.args.c2 c.args.p (lit< tt) c.requires.coef
 twice : (c : goal.Start) → SFits w64 (c.args.c2 *ℤ c.args.p *ℤ c.args.p)
 twice c = product_fits 50000000000 100000000 (c.args.c2 *ℤ c.args.p) c.args.p (lit< tt) (product_within 500 100000000 c.args.c2 c.args.p c.requires.coefficient c.requires.power) c.requires.power
 
-pub overflow-mul-result : goal.overflow-mul-result
-overflow-mul-result c =
+pub overflow_mul-result : goal.overflow_mul-result
+overflow_mul-result c =
     let f = c.ranges.c2 in
     let g = c.ranges.p in
     simp to_z-of_z (once c)
 
-pub overflow-mul-result-2 : goal.overflow-mul-result-2
-overflow-mul-result-2 c =
+pub overflow_mul-result-2 : goal.overflow_mul-result-2
+overflow_mul-result-2 c =
     let f = c.ranges.c2 in
     let g = c.ranges.p in
     let h = once c in

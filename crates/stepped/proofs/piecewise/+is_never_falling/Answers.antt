@@ -5,8 +5,8 @@ use Rattle.stepped.specs.Piecewise.{first}
 use Rattle.stepped.proofs.Slices.{tail, falling_none, falling_more}
 use Rattle.stepped.proofs.piecewise.+is_never_falling.Goals as goal
 
-pub returns-in-default : goal.returns-in-default
-returns-in-default t c = falling_none c.args.xs.now (omega (arith, ltb-true, ltb-false))
+pub returns-in_default : goal.returns-in_default
+returns-in_default t c = falling_none c.args.xs.now (omega (arith, ltb-true, ltb-false))
 
 pub returns : goal.returns
 returns t c =
@@ -15,4 +15,4 @@ returns t c =
     let k : 0 < length (tail c.args.xs.now) = omega (arith, ltb-true, ltb-false) in
     let f : SFits w64 (first c.args.xs.now) = search rules in
     let g : SFits w64 (first (tail c.args.xs.now)) = search rules in
-    simp (to_z-of_z, f, g) (ap (λ b. le_z (first c.args.xs.now) (first (tail c.args.xs.now)) && b) c.is-never-falling.ensures ∙ sym (falling_more c.args.xs.now h k))
+    simp (to_z-of_z, f, g) (ap (λ b. le_z (first c.args.xs.now) (first (tail c.args.xs.now)) && b) c.is_never_falling.ensures ∙ sym (falling_more c.args.xs.now h k))

@@ -14,11 +14,11 @@ returns c =
     let low : 2 ≤ m.n = omega arith in
     let high : m.n ≤ 8 = omega arith in
     let test =
-    row_test m low high c.are-in-range.result c.is-between.result c.all-between.result c.is-rising.result c.all-between-2.result c.is-never-falling.result
-    c.are-in-range.ensures
-    (simp (to_z-of_z, f) at c.is-between.ensures)
-    (simp sub-zero at c.all-between.ensures)
-    (simp sub-zero at c.is-rising.ensures)
-    (simp sub-zero at c.all-between-2.ensures)
-    (simp sub-zero at c.is-never-falling.ensures) in
+    row_test m low high c.are_in_range.result c.is_between.result c.all_between.result c.is_rising.result c.all_between-2.result c.is_never_falling.result
+    c.are_in_range.ensures
+    (simp (to_z-of_z, f) at c.is_between.ensures)
+    (simp sub-zero at c.all_between.ensures)
+    (simp sub-zero at c.is_rising.ensures)
+    (simp sub-zero at c.all_between-2.ensures)
+    (simp sub-zero at c.is_never_falling.ensures) in
     record { test = test; cost = λ e. one-cost m points slopes (sym test ∙ e) }

@@ -6,8 +6,8 @@ use Rattle.stepped.proofs.Sizes.{million_fits}
 use Rattle.stepped.specs.Keeping.{walkable}
 use Rattle.stepped.proofs.stepped.Stepped.least_margin.Goals as goal
 
-pub least-along-requires : goal.least-along-requires
-least-along-requires c =
+pub least_along-requires : goal.least_along-requires
+least_along-requires c =
     let m = c.args.self.now in
     let k = c.requires.ok in
     simp (to_z-of_z, c.ranges.q, fits 100000000 m.lo.0 (lit< tt) k.limits.low, fits 100000000 m.hi.0 (lit< tt) k.limits.high, fits 100000000 m.c (lit< tt) k.c, million_fits m.c k.c, fits 100000000 (first m.points) (lit< tt) k.first_point, fits 1000000 (first m.slopes) (lit< tt) k.first_slope)
@@ -17,6 +17,6 @@ pub returns : goal.returns
 returns c =
     let m = c.args.self.now in
     let k = c.requires.ok in
-    to_z-of_z w64 c.least-along.result (record { sfits = c.least-along.type-inv })
+    to_z-of_z w64 c.least_along.result (record { sfits = c.least_along.type_inv })
     ∙ simp (to_z-of_z, c.ranges.q, fits 100000000 m.lo.0 (lit< tt) k.limits.low, fits 100000000 m.hi.0 (lit< tt) k.limits.high, fits 100000000 m.c (lit< tt) k.c, million_fits m.c k.c, fits 100000000 (first m.points) (lit< tt) k.first_point, fits 1000000 (first m.slopes) (lit< tt) k.first_slope)
-    at c.least-along.ensures
+    at c.least_along.ensures

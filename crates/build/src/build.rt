@@ -20,8 +20,8 @@ pub fn lay<M: Machine, N: Machine>(
     second: &mut [u8],
     branches: &mut [Branch],
 ) -> Result<Counts, Refusal>
-    ensures laid { MatchResult result (λ n. Laid M.Machine.meaning N.Machine.meaning rows.now (lent buses.old first.old second.old branches.old) (lent buses.new first.new second.new branches.new) n) (λ e. NotLaid M.Machine.meaning N.Machine.meaning rows.now (lent buses.old first.old second.old branches.old) (lent buses.new first.new second.new branches.new) e) }
-    ensures formed { IfOk result (λ n. WellFormed M.Machine.meaning N.Machine.meaning (laid_case rows.now (lent buses.new first.new second.new branches.new) n)) }
+    ensures laid { MatchResult result (λ n. Laid M.meaning N.meaning rows.now (lent buses.old first.old second.old branches.old) (lent buses.new first.new second.new branches.new) n) (λ e. NotLaid M.meaning N.meaning rows.now (lent buses.old first.old second.old branches.old) (lent buses.new first.new second.new branches.new) e) }
+    ensures formed { IfOk result (λ n. WellFormed M.meaning N.meaning (laid_case rows.now (lent buses.new first.new second.new branches.new) n)) }
 {
     let room = Room {
         buses: buses.len(),

@@ -46,7 +46,7 @@ fn first_repeated<R: Named>(rows: &[R]) -> Option<usize>
 
 // Every test in its order: how many rows of each table the case has, or the first refusal that applies.
 pub fn check<M: Machine, N: Machine>(rows: &Rows<M, N>, room: &Room) -> Result<Counts, Refusal>
-    ensures { MatchResult result (λ n. Accepted M.Machine.meaning N.Machine.meaning rows.now room.now × Counted rows.now n) (λ e. Refused M.Machine.meaning N.Machine.meaning rows.now room.now e) }
+    ensures { MatchResult result (λ n. Accepted M.meaning N.meaning rows.now room.now × Counted rows.now n) (λ e. Refused M.meaning N.meaning rows.now room.now e) }
 {
     if let Some(row) = first_out_of_range(rows.buses) {
         return Err(Refusal::OutOfRange(row));

@@ -29,9 +29,9 @@ pub(crate) fn fill_buses(rows: &[BusRow], table: &mut [Bus])
 // Writes the row of each machine's bus.
 pub(crate) fn fill_places<M: Machine>(buses: &NameList<BusRow>, machines: &[M], table: &mut [u8])
     requires few { length buses.now.rows.now ≤ 100 }
-    requires known { Lowest (MachineUnknown M.Machine.meaning buses.now.rows.now machines.now) None }
+    requires known { Lowest (MachineUnknown M.meaning buses.now.rows.now machines.now) None }
     requires room { length machines.now ≤ length table.old }
-    ensures { Filled (Placed M.Machine.meaning buses.now.rows.now) machines.now table.old table.new (length machines.now) }
+    ensures { Filled (Placed M.meaning buses.now.rows.now) machines.now table.old table.new (length machines.now) }
 {
     for i in 0..machines.len() {
         let Some(row) = buses.find(&machines[i].bus()) else {

@@ -38,7 +38,7 @@ fn check_machines<M: Machine>(
     before: usize,
 ) -> Result<(), Refusal>
     requires { before + length machines.now ≤ 1000 }
-    ensures { MatchResult result (λ _. Lowest (MachineUnknown M.Machine.meaning buses.now.rows.now machines.now) None) (λ e. UnknownRow before (MachineUnknown M.Machine.meaning buses.now.rows.now machines.now) e) }
+    ensures { MatchResult result (λ _. Lowest (MachineUnknown M.meaning buses.now.rows.now machines.now) None) (λ e. UnknownRow before (MachineUnknown M.meaning buses.now.rows.now machines.now) e) }
 {
     for (i, machine) in machines.iter().enumerate() {
         let Some(_row) = buses.find(&machine.bus()) else {
@@ -69,7 +69,7 @@ fn check_branches(
 // Tests that every bus that is named is offered.
 pub(crate) fn check_buses<M: Machine, N: Machine>(rows: &Rows<M, N>) -> Result<(), Refusal>
     requires { Few rows.now }
-    ensures { MatchResult result (λ _. Lowest (Unknown M.Machine.meaning N.Machine.meaning rows.now) None) (λ e. UnknownRow 0 (Unknown M.Machine.meaning N.Machine.meaning rows.now) e) }
+    ensures { MatchResult result (λ _. Lowest (Unknown M.meaning N.meaning rows.now) None) (λ e. UnknownRow 0 (Unknown M.meaning N.meaning rows.now) e) }
 {
     let buses = NameList { rows: rows.buses };
     let (first, second) = (rows.first.len(), rows.second.len());

@@ -26,7 +26,7 @@ fn carried(susceptance: i64, difference: i64, shift: i64) -> i64
 impl<'a, C: Column> Angles<'a, C> {
     // The angle at the bus in that row: 0 at the reference.
     pub(crate) fn at_bus(&self, row: u8) -> i64
-        ensures { result ≡ angle_of self.now.buses (C.Column.value self.now.given.now) row }
+        ensures { result ≡ angle_of self.now.buses (C.value self.now.given.now) row }
     {
         if row == 0 {
             return 0;
@@ -37,14 +37,14 @@ impl<'a, C: Column> Angles<'a, C> {
 
     // The angle at its from end less that at its to end.
     pub(crate) fn difference(&self, branch: &Branch) -> i64
-        ensures { result ≡ difference_of (angle_of self.now.buses (C.Column.value self.now.given.now)) branch.now }
+        ensures { result ≡ difference_of (angle_of self.now.buses (C.value self.now.given.now)) branch.now }
     {
         self.at_bus(branch.ends.from) - self.at_bus(branch.ends.to)
     }
 
     // What the branch carries.
     pub(crate) fn flow(&self, branch: &Branch) -> i64
-        ensures { result ≡ flow_of (angle_of self.now.buses (C.Column.value self.now.given.now)) branch.now }
+        ensures { result ≡ flow_of (angle_of self.now.buses (C.value self.now.given.now)) branch.now }
     {
         only_if(
             branch.service,

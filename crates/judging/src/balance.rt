@@ -23,7 +23,7 @@ pub(crate) struct Injections<'a, 'd, M, C> {
 }
 
 impl<'a, 'd, M, C: Column> Column for Injections<'a, 'd, M, C> {
-    ghost value = { λ s. row_value (given_at (λ i. slice_index s.machines.places.now i) (C.Column.value s.powers.now) s.bus) s.machines.rows.now };
+    ghost value = { λ s. row_value (given_at (λ i. slice_index s.machines.places.now i) (C.value s.powers.now) s.bus) s.machines.rows.now };
 
     fn at(&self, row: usize) -> i64 {
         if row < self.machines.rows.len() {
@@ -39,7 +39,7 @@ impl<'a, 'd, M, C: Column> Injections<'a, 'd, M, C> {
     // What the group gives at the bus.
     pub(crate) fn total(&self) -> i64
         ensures small { Within 25500000000 result }
-        ensures exact { result ≡ total (given_at (group_of self.now.machines).place (C.Column.value self.now.powers.now) self.now.bus) (rows (group_of self.now.machines).machines) }
+        ensures exact { result ≡ total (given_at (group_of self.now.machines).place (C.value self.now.powers.now) self.now.bus) (rows (group_of self.now.machines).machines) }
     {
         sum(self, self.machines.count)
     }
@@ -56,7 +56,7 @@ pub(crate) struct Outflows<'a, 'd, C> {
 impl<'a, 'd, C: Column> Outflows<'a, 'd, C> {
     // What leaves the bus by that branch, less what arrives.
     fn by(&self, branch: &Branch) -> i64
-        ensures { result ≡ outflow_of (angle_of self.now.angles.buses (C.Column.value self.now.angles.given.now)) self.now.bus branch.now }
+        ensures { result ≡ outflow_of (angle_of self.now.angles.buses (C.value self.now.angles.given.now)) self.now.bus branch.now }
     {
         let flow = self.angles.flow(branch);
         let leaving = only_if(branch.ends.from as usize == self.bus, flow);
@@ -67,14 +67,14 @@ impl<'a, 'd, C: Column> Outflows<'a, 'd, C> {
     // What leaves the bus by the first so many branches, less what arrives.
     pub(crate) fn total(&self, count: u8) -> i64
         ensures small { Within 4080000000000000 result }
-        ensures exact { result ≡ total (outflow_row (angle_of self.now.angles.buses (C.Column.value self.now.angles.given.now)) self.now.bus) (rows (take count self.now.branches.now)) }
+        ensures exact { result ≡ total (outflow_row (angle_of self.now.angles.buses (C.value self.now.angles.given.now)) self.now.bus) (rows (take count self.now.branches.now)) }
     {
         sum(self, count)
     }
 }
 
 impl<'a, 'd, C: Column> Column for Outflows<'a, 'd, C> {
-    ghost value = { λ s. row_value (outflow_row (angle_of s.angles.buses (C.Column.value s.angles.given.now)) s.bus) s.branches.now };
+    ghost value = { λ s. row_value (outflow_row (angle_of s.angles.buses (C.value s.angles.given.now)) s.bus) s.branches.now };
 
     fn at(&self, row: usize) -> i64 {
         if row < self.branches.len() {
@@ -105,7 +105,7 @@ pub(crate) struct Balance<'a, 'd, M, N, C> {
 impl<'a, 'd, M, N, C: Column> Balance<'a, 'd, M, N, C> {
     // Machines' power - demand - flows leaving + flows arriving, at the bus in that row.
     fn mismatch(&self, row: usize, bus: &Bus) -> i64
-        ensures { result ≡ mismatch_of (case_of self.now.case) (C.Column.value self.now.first.now) (C.Column.value self.now.second.now) (angle_of self.now.angles.buses (C.Column.value self.now.angles.given.now)) (record { item = bus.now; row = row }) }
+        ensures { result ≡ mismatch_of (case_of self.now.case) (C.value self.now.first.now) (C.value self.now.second.now) (angle_of self.now.angles.buses (C.value self.now.angles.given.now)) (record { item = bus.now; row = row }) }
     {
         let first = Injections {
             machines: self.case.first,
@@ -132,7 +132,7 @@ impl<'a, 'd, M, N, C: Column> Balance<'a, 'd, M, N, C> {
 }
 
 impl<'a, 'd, M, N, C: Column> Limit for Balance<'a, 'd, M, N, C> {
-    ghost broken = { λ s. row_test (unbalanced (case_of s.case) (C.Column.value s.first.now) (C.Column.value s.second.now) (angle_of s.angles.buses (C.Column.value s.angles.given.now))) s.case.buses.now };
+    ghost broken = { λ s. row_test (unbalanced (case_of s.case) (C.value s.first.now) (C.value s.second.now) (angle_of s.angles.buses (C.value s.angles.given.now))) s.case.buses.now };
 
     fn is_broken(&self, row: usize) -> bool {
         if row < self.case.buses.len() {

@@ -22,7 +22,7 @@ fn cost<M: Machine, N: Machine, C: Column>(
     case: &Case<M, N>,
     dispatch: &Dispatch<C>,
 ) -> Result<Grains, Refusal>
-    ensures { CostAnswer M.Machine.meaning N.Machine.meaning (case_of case.now) (dispatch_of C.Column.value dispatch.now) result }
+    ensures { CostAnswer M.meaning N.meaning (case_of case.now) (dispatch_of C.value dispatch.now) result }
 {
     let first = case.first.used();
     let second = case.second.used();
@@ -40,7 +40,7 @@ pub fn judge<M: Machine, N: Machine, C: Column>(
     case: &Case<M, N>,
     dispatch: &Dispatch<C>,
 ) -> Result<Grains, Refusal>
-    ensures { Judged M.Machine.meaning N.Machine.meaning (case_of case.now) (dispatch_of C.Column.value dispatch.now) result }
+    ensures { Judged M.meaning N.meaning (case_of case.now) (dispatch_of C.value dispatch.now) result }
 {
     let buses = rows_used(case.buses, case.nb);
     let range = AngleRange {

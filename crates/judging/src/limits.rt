@@ -16,7 +16,7 @@ pub(crate) struct AngleRange<'a, C> {
 }
 
 impl<'a, C: Column> Limit for AngleRange<'a, C> {
-    ghost broken = { λ s. angle_beyond (C.Column.value s.angles.now) };
+    ghost broken = { λ s. angle_beyond (C.value s.angles.now) };
 
     fn is_broken(&self, row: usize) -> bool {
         if row == 0 {
@@ -35,7 +35,7 @@ pub(crate) struct Ratings<'a, 'd, C> {
 
 impl<'a, 'd, C: Column> Ratings<'a, 'd, C> {
     fn is_overloaded(&self, branch: &Branch) -> bool
-        ensures { result ≡ overloaded (angle_of self.now.angles.buses (C.Column.value self.now.angles.given.now)) branch.now }
+        ensures { result ≡ overloaded (angle_of self.now.angles.buses (C.value self.now.angles.given.now)) branch.now }
     {
         let rating = branch.rating.0;
         branch.service & (0 < rating) & !is_between(-rating, rating, self.angles.flow(branch))
@@ -43,7 +43,7 @@ impl<'a, 'd, C: Column> Ratings<'a, 'd, C> {
 }
 
 impl<'a, 'd, C: Column> Limit for Ratings<'a, 'd, C> {
-    ghost broken = { λ s. row_test (overloaded_row (angle_of s.angles.buses (C.Column.value s.angles.given.now))) s.branches.now };
+    ghost broken = { λ s. row_test (overloaded_row (angle_of s.angles.buses (C.value s.angles.given.now))) s.branches.now };
 
     fn is_broken(&self, row: usize) -> bool {
         if row < self.branches.len() {
@@ -63,7 +63,7 @@ pub(crate) struct Differences<'a, 'd, C> {
 
 impl<'a, 'd, C: Column> Differences<'a, 'd, C> {
     fn is_overstretched(&self, branch: &Branch) -> bool
-        ensures { result ≡ overstretched (angle_of self.now.angles.buses (C.Column.value self.now.angles.given.now)) branch.now }
+        ensures { result ≡ overstretched (angle_of self.now.angles.buses (C.value self.now.angles.given.now)) branch.now }
     {
         branch.service
             & !is_between(
@@ -75,7 +75,7 @@ impl<'a, 'd, C: Column> Differences<'a, 'd, C> {
 }
 
 impl<'a, 'd, C: Column> Limit for Differences<'a, 'd, C> {
-    ghost broken = { λ s. row_test (overstretched_row (angle_of s.angles.buses (C.Column.value s.angles.given.now))) s.branches.now };
+    ghost broken = { λ s. row_test (overstretched_row (angle_of s.angles.buses (C.value s.angles.given.now))) s.branches.now };
 
     fn is_broken(&self, row: usize) -> bool {
         if row < self.branches.len() {

@@ -10,7 +10,7 @@ use measure::{Grains, Watts};
 // The sum of the machines' costs, each at its power in watts; or the row of a machine that does not allow its power.
 pub fn total_cost<M: Machine, C: Column>(machines: &[M], powers: &C) -> Result<Grains, usize>
     requires few { length machines.now ≤ 255 }
-    ensures { MatchResult result (λ t. Counted M.Machine.meaning machines.now (C.Column.value powers.now) t.0) (λ i. NotAllowedAt M.Machine.meaning machines.now (C.Column.value powers.now) i) }
+    ensures { MatchResult result (λ t. Counted M.meaning machines.now (C.value powers.now) t.0) (λ i. NotAllowedAt M.meaning machines.now (C.value powers.now) i) }
 {
     let mut total = 0;
     for i in 0..machines.len() {
@@ -25,8 +25,8 @@ pub fn total_cost<M: Machine, C: Column>(machines: &[M], powers: &C) -> Result<G
 // The sum of the machines' margins, each at its price.
 pub fn total_margin<M: Machine, C: Column>(machines: &[M], prices: &C) -> Grains
     requires few { length machines.now ≤ 255 }
-    requires priced { Priced machines.now (C.Column.value prices.now) }
-    ensures { result.0 ≡ total_margins M.Machine.meaning machines.now (C.Column.value prices.now) }
+    requires priced { Priced machines.now (C.value prices.now) }
+    ensures { result.0 ≡ total_margins M.meaning machines.now (C.value prices.now) }
 {
     let mut total = 0;
     for i in 0..machines.len() {

@@ -1,5 +1,5 @@
 -- The order of fractions, and fractions that are the same.
-use Rattle.std.proofs.Common.{◌≡◌, ◌≤◌, List, [], ◌∷◌, ℤ, pos, ◌+ℤ◌, ◌*ℤ◌, ◌≤ℤ◌, ap, arith}
+use Rattle.std.proofs.Common.{◌≡◌, List, [], ◌∷◌, ℤ, pos, ◌+ℤ◌, ◌*ℤ◌, ◌≤ℤ◌, ap, arith}
 use Rattle.measure.specs.Fraction.{Fraction, whole, Same, ◌≤ᶠ◌, ◌+ᶠ◌, Between}
 use Rattle.measure.specs.Rows.{total, totalᶠ}
 use Rattle.measure.proofs.Laws.{expand, lin}

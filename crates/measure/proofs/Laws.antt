@@ -1,6 +1,6 @@
 -- The laws of the ring of whole numbers, as rules for `simp` (`expand`, then `flat`); and `lin`, by which `omega` reads sums, orders and
 -- tests of whole numbers with each product an unknown.
-use Rattle.std.proofs.Common.{◌≡◌, ℕ, ◌+◌, ◌*◌, ◌≤◌, ℤ, pos, negsuc, ◌+ℤ◌, ◌-ℤ◌, ◌*ℤ◌, neg_ℤ, ◌≤ℤ◌, sym, refl, ap, ◌∙◌, arith}
+use Rattle.std.proofs.Common.{◌≡◌, ℕ, ◌+◌, ◌*◌, ℤ, pos, negsuc, ◌+ℤ◌, ◌*ℤ◌, neg_ℤ, sym, ap, ◌∙◌, arith}
 use lib.IntN.{*ℤ_comm, +ℤ_comm, +ℤ_assoc}
 use borrow.Author.Differences.{up, down, same_in, same_out, sum_is_lem, neg_is, product_is, ints, lt_out, le_out, below_in, at_most_in, Apart-out, le-true, le-false, lt-true, lt-false}
 

@@ -1,10 +1,8 @@
 -- Quotients rounded down and up.
-use Rattle.std.proofs.Common.{◌≡◌, ℕ, suc, ◌+◌, ◌*◌, ◌/◌, ◌<◌, ◌≤◌, ℤ, pos, negsuc, ◌+ℤ◌, ◌-ℤ◌, ◌*ℤ◌, neg_ℤ, ◌≤ℤ◌, ◌<ℤ◌, div-le_self, div-mul-le_self, arith}
+use Rattle.std.proofs.Common.{ℕ, ◌<◌, ℤ, pos, negsuc, ◌+ℤ◌, ◌*ℤ◌, ◌≤ℤ◌, ◌<ℤ◌, div-le_self, div-mul-le_self, arith}
 use native.Mathlib.Nat.{lt-div-mul-add}
-use Rattle.std.specs.Int.{int_div_euclid}
-use Rattle.measure.specs.Range.{Within, floor_div, ceil_div}
-use Rattle.measure.proofs.Laws.{expand, flat, lin}
-use Rattle.measure.proofs.Order.{mul_cancel}
+use Rattle.measure.specs.Range.{Within, floor_div}
+use Rattle.measure.proofs.Laws.{lin}
 
 -- q d ≤ a < q d + d
 pub floor_div-is : (a d : ℤ) → pos 1 ≤ℤ d → ((floor_div a d *ℤ d) ≤ℤ a) × (a <ℤ (floor_div a d *ℤ d +ℤ d))

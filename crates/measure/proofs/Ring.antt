@@ -1,7 +1,7 @@
 -- Ring algebra in ℤ: a solver by reflection,
 --     ring e₁ e₂ ρ tt : eval e₁ ρ ≡ eval e₂ ρ
 -- for two expressions over the variables ρ whose difference multiplies out to nothing. `var 0`, `var 1` .. name the entries of ρ.
-use Rattle.std.proofs.Common.{◌≡◌, ℕ, zero, suc, ◌+◌, ◌*◌, ◌≤◌, Bool, true, false, cond, T, eqb, ltb, List, [], ◌∷◌, ℤ, pos, negsuc, ◌+ℤ◌, ◌-ℤ◌, ◌*ℤ◌, neg_ℤ, sym, refl, ap, ◌∙◌, subst, arith, eqb→eq}
+use Rattle.std.proofs.Common.{◌≡◌, ℕ, zero, suc, Bool, true, false, cond, T, eqb, ltb, List, [], ◌∷◌, ℤ, pos, negsuc, ◌+ℤ◌, ◌-ℤ◌, ◌*ℤ◌, neg_ℤ, sym, refl, ap, ◌∙◌, arith, eqb→eq}
 use lib.IntN.{+ℤ_assoc, +ℤ_comm, +ℤ_idl, +ℤ_idr, *ℤ_comm, zero-*ℤ, *ℤ-zero}
 use borrow.Author.Differences.{same_in, same_out, sum_is_lem, neg_is}
 use Rattle.measure.proofs.Laws.{add_mul, mul_add, mul_assoc, add_left_comm, mul_left_comm, one-mul, mul_one, minus_one_mul}

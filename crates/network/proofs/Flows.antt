@@ -13,7 +13,7 @@ use Rattle.measure.proofs.Scale.{within_over, between_over}
 use Rattle.machine.specs.Meaning.{Meaning}
 use Rattle.network.specs.declared.bus.Bus.{Bus}
 use Rattle.network.specs.declared.branch.Branch.{Branch}
-use Rattle.network.specs.Model.{Case, Dispatch, angle, difference, flow, Meets}
+use Rattle.network.specs.Model.{Case, Dispatch, difference, flow, Meets}
 use Rattle.network.specs.Floor.{Prices, price, weight, pull, residue, angle_charge, branch_charge, LawfulList}
 use Rattle.network.proofs.Branches.{congestion_bound, angle-bound, branch_low}
 use Rattle.network.proofs.Scaled.{differenceᶻ, flowᶻ, leavingᶻ, arrivingᶻ, AnglesOver, over_difference, over_flow}

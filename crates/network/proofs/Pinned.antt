@@ -1,16 +1,14 @@
 -- The answer of judging is pinned: of one dispatch on one case there is one cost, or refusals of one number.
-use Rattle.std.proofs.Common.{◌≡◌, ℕ, zero, suc, ◌-◌, ◌<◌, length, ℤ, Ok, Err, Result, sym, refl, ap, subst, ⊎_elim, arith}
+use Rattle.std.proofs.Common.{◌≡◌, ℕ, zero, suc, ◌-◌, Ok, Err, Result, refl, ap, subst, ⊎_elim, arith}
 use Rattle.measure.specs.declared.Grains.{Grains}
 use Rattle.measure.specs.Range.{Within}
-use Rattle.measure.specs.Rows.{Row, HoldsAt}
 use Rattle.measure.proofs.Tested.{holds_not}
 use Rattle.machine.specs.Meaning.{Meaning}
-use Rattle.network.specs.declared.bus.Bus.{Bus}
 use Rattle.network.specs.declared.refusal.Refusal.{Refusal}
 use Rattle.network.specs.declared.refusal.Refusal.TheVariants.{OutOfRange, Crossed, Size, Repeated, UnknownBus, NotInCase, NotAllowed, Unbalanced, Overloaded, Overstretched, Unrated, Weight, Residue}
 use Rattle.network.specs.Refusals.{number_of}
 use Rattle.network.specs.Model.{Case, WholeDispatch, in_fractions, Meets, counted}
-use Rattle.network.specs.Judged.{AngleBeyond, AnglesKept, PowersAllowed, PowerRefused, Balanced, RatingsKept, Refused, Taken, Declined, Judged}
+use Rattle.network.specs.Judged.{AngleBeyond, AnglesKept, PowersAllowed, PowerRefused, Balanced, RatingsKept, Refused, Judged}
 
 module _ {M N : Type 0} (𝓜 : Meaning M) (𝓝 : Meaning N) (c : Case M N) (d : WholeDispatch) where
   -- a dispatch that meets the case is answered by its counted cost

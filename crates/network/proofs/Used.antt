@@ -1,5 +1,5 @@
 -- The first rows of a table, as many as the case has.
-use Rattle.std.proofs.Common.{◌≡◌, ℕ, zero, suc, ◌-◌, ◌≤◌, List, [], ◌∷◌, length, take, sym, refl, ap, ◌∙◌, arith, length-take}
+use Rattle.std.proofs.Common.{◌≡◌, ℕ, zero, suc, ◌-◌, ◌≤◌, List, [], ◌∷◌, length, take, refl, ap, ◌∙◌, arith, length-take}
 
 pub used_within : {X : Type 0} (n r : ℕ) (xs : List X) → r ≡ length (take n xs) → r ≤ length xs
 used_within n r xs e = omega (arith, simp length-take at e)

@@ -1,5 +1,5 @@
 -- Price lists and their floors.
-use Rattle.std.specs.Prelude.{◌≡◌, ℕ, ◌<◌, Bool, cond, T, List, [], ◌∷◌, length, ℤ, pos, ◌+ℤ◌, ◌-ℤ◌, ◌*ℤ◌, ◌==◌, nat_lt}
+use Rattle.std.specs.Prelude.{◌≡◌, ℕ, ◌<◌, cond, T, List, [], ◌∷◌, length, ℤ, pos, ◌+ℤ◌, ◌-ℤ◌, ◌*ℤ◌, ◌==◌, nat_lt}
 use Rattle.std.specs.Int.Signed.{non_neg}
 use Rattle.measure.specs.Range.{Within, ∣◌∣}
 use Rattle.measure.specs.Rows.{Row, rows, total, only, All}

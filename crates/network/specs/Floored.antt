@@ -5,7 +5,6 @@ use Rattle.measure.specs.Fraction.{whole, ◌≤ᶠ◌}
 use Rattle.measure.specs.Rows.{Row, rows, All, HoldsAt, Lowest}
 use Rattle.measure.specs.declared.Grains.{Grains}
 use Rattle.machine.specs.Meaning.{Meaning}
-use Rattle.network.specs.declared.bus.Bus.{Bus}
 use Rattle.network.specs.declared.branch.Branch.{Branch}
 use Rattle.network.specs.declared.refusal.Refusal.{Refusal}
 use Rattle.network.specs.declared.refusal.Refusal.TheVariants.{OutOfRange, Crossed, Size, Repeated, UnknownBus, NotInCase, NotAllowed, Unbalanced, Overloaded, Overstretched, Unrated, Weight, Residue}

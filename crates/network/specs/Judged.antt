@@ -1,6 +1,6 @@
 -- What judging a whole dispatch answers: its counted cost exactly if it meets the case, else the first limit that it breaks, in the order
 -- of the refusals' numbers, with a row that breaks it.
-use Rattle.std.specs.Prelude.{◌≡◌, ℕ, suc, ◌+◌, ◌-◌, ◌<◌, T, ◌⊎◌, length, ℤ, pos, neg_ℤ, ◌<ℤ◌, Some, Ok, Err, Result}
+use Rattle.std.specs.Prelude.{◌≡◌, ℕ, suc, ◌+◌, ◌-◌, ◌<◌, T, ◌⊎◌, length, pos, neg_ℤ, ◌<ℤ◌, Some, Ok, Err, Result}
 use Rattle.measure.specs.declared.Grains.{Grains}
 use Rattle.measure.specs.Range.{Within}
 use Rattle.measure.specs.Fraction.{whole, ◌≤ᶠ◌, Between}

@@ -1,6 +1,6 @@
 -- The network in whole units (watts, microradians), a dispatch in fractions, and when it meets the case. Buses, machines and branches are
 -- known by their rows, counted from 0; row 0 of the buses is the reference.
-use Rattle.std.specs.Prelude.{◌≡◌, ℕ, zero, suc, Bool, true, false, T, List, [], ◌∷◌, length, ℤ, pos, ◌+ℤ◌, neg_ℤ, ◌<ℤ◌, ◌==◌, nat_lt}
+use Rattle.std.specs.Prelude.{ℕ, zero, suc, T, List, length, ℤ, pos, ◌+ℤ◌, neg_ℤ, ◌<ℤ◌, ◌==◌, nat_lt}
 use Rattle.measure.specs.Fraction.{Fraction, whole, ◌+ᶠ◌, ◌-ᶠ◌, ◌·ᶠ◌, Between}
 use Rattle.measure.specs.Rows.{Row, rows, totalᶠ, onlyᶠ, All}
 use Rattle.machine.specs.Meaning.{Meaning}

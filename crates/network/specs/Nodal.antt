@@ -1,6 +1,6 @@
 -- The nodal equation of the DC model in matrix form: B_bus Θ + P_shift + P_d - C_g P_g, with the connection matrices written out.
 -- C_f and C_t have a row for each branch and a column for each bus; C_g has a row for each bus and a column for each machine.
-use Rattle.std.specs.Prelude.{ℕ, Bool, true, false, List, ℤ, pos, ◌-ℤ◌, ◌*ℤ◌, neg_ℤ, ◌==◌}
+use Rattle.std.specs.Prelude.{ℕ, Bool, ℤ, pos, ◌-ℤ◌, ◌*ℤ◌, neg_ℤ, ◌==◌}
 use Rattle.measure.specs.Fraction.{Fraction, whole, ◌+ᶠ◌, ◌-ᶠ◌, ◌·ᶠ◌}
 use Rattle.measure.specs.Rows.{Row, rows, total, totalᶠ, only}
 use Rattle.network.specs.declared.bus.Bus.{Bus}

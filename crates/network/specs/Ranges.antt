@@ -1,5 +1,5 @@
 -- The ranges and orders that every bus and every branch keeps, and below them the ranges within which sums and products stay inside 64 bits.
-use Rattle.std.specs.Prelude.{ℕ, ◌≤◌, ℤ, pos, ◌≤ℤ◌}
+use Rattle.std.specs.Prelude.{ℕ, ◌≤◌, ℤ, ◌≤ℤ◌}
 use Rattle.measure.specs.Range.{Within}
 
 -- a number in a name: a bus or a circuit

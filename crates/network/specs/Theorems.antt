@@ -1,7 +1,7 @@
 -- What holds of the model.
-use Rattle.std.specs.Prelude.{List, ℤ, pos, neg_ℤ}
-use Rattle.measure.specs.Fraction.{Fraction, whole, ◌≤ᶠ◌, ◌·ᶠ◌, Same}
-use Rattle.measure.specs.Rows.{Row, rows, All}
+use Rattle.std.specs.Prelude.{pos, neg_ℤ}
+use Rattle.measure.specs.Fraction.{whole, ◌≤ᶠ◌, ◌·ᶠ◌, Same}
+use Rattle.measure.specs.Rows.{Row}
 use Rattle.machine.specs.Meaning.{Meaning}
 use Rattle.network.specs.declared.bus.Bus.{Bus}
 use Rattle.network.specs.Model.{Case, Dispatch, WholeDispatch, in_fractions, Meets, mismatch, true_cost, counted}

@@ -5,14 +5,14 @@ use machine::machine::Machine;
 
 // The floor of every lawful price list is at most the true cost of every dispatch in fractions that meets the case.
 pub fn floor_stands<M: Machine, N: Machine>() -> u8
-    ensures { FloorTheorem M.Machine.meaning N.Machine.meaning }
+    ensures { FloorTheorem M.meaning N.meaning }
 {
     0
 }
 
 // A whole dispatch that meets the case truly costs at most what it is counted at.
 pub fn counted_covers<M: Machine, N: Machine>() -> u8
-    ensures { CountedTheorem M.Machine.meaning N.Machine.meaning }
+    ensures { CountedTheorem M.meaning N.meaning }
 {
     0
 }

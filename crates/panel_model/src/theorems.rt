@@ -5,5 +5,5 @@ use machine::machine::Machine;
 
 // After any run of calls on a new panel of any case, what is shown stands.
 pub fn panels_stand<M: Machine, N: Machine>()
-    ensures { PanelsStand M.Machine.meaning N.Machine.meaning }
+    ensures { PanelsStand M.meaning N.meaning }
 {}

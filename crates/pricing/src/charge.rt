@@ -59,7 +59,7 @@ fn worth(price: i64, demand: i64, residue: i64) -> i64
 impl<'a, 'q, M, N, C: Column> PricedCase<'a, 'q, M, N, C> {
     // What the branch in that row is charged.
     fn charge(&self, row: usize, branch: &Branch) -> i64
-        ensures { result ≡ kept_charge (case_of self.now.case) (kept_prices (prices_of C.Column.value self.now.prices.now)) (record { item = branch.now; row = row }) }
+        ensures { result ≡ kept_charge (case_of self.now.case) (kept_prices (prices_of C.value self.now.prices.now)) (record { item = branch.now; row = row }) }
     {
         let weight = keep(-WEIGHT_LIMIT, WEIGHT_LIMIT, self.weight(row, branch));
         let angle = stretched(self.angle_price_at(row), branch.angmin.0, branch.angmax.0);
@@ -77,7 +77,7 @@ impl<'a, 'q, M, N, C: Column> PricedCase<'a, 'q, M, N, C> {
 
     // What the bus in that row adds to the floor.
     fn bus_worth(&self, row: usize, bus: &Bus) -> i64
-        ensures { result ≡ bus_worth (case_of self.now.case) (kept_prices (prices_of C.Column.value self.now.prices.now)) (record { item = bus.now; row = row }) }
+        ensures { result ≡ bus_worth (case_of self.now.case) (kept_prices (prices_of C.value self.now.prices.now)) (record { item = bus.now; row = row }) }
     {
         let residue = keep(-RESIDUE_LIMIT, RESIDUE_LIMIT, self.residue(row));
         worth(self.price_at(row), bus.demand.0, only_if(0 < row, residue))
@@ -86,7 +86,7 @@ impl<'a, 'q, M, N, C: Column> PricedCase<'a, 'q, M, N, C> {
     // What all branches are charged.
     pub(crate) fn charges(&self) -> i64
         ensures small { Within 4268700000000000000 result }
-        ensures exact { result ≡ total (kept_charge (case_of self.now.case) (kept_prices (prices_of C.Column.value self.now.prices.now))) (rows (take self.now.case.nl self.now.case.branches.now)) }
+        ensures exact { result ≡ total (kept_charge (case_of self.now.case) (kept_prices (prices_of C.value self.now.prices.now))) (rows (take self.now.case.nl self.now.case.branches.now)) }
     {
         sum(&Charges { priced: *self }, self.case.nl)
     }
@@ -94,7 +94,7 @@ impl<'a, 'q, M, N, C: Column> PricedCase<'a, 'q, M, N, C> {
     // What all buses add to the floor.
     pub(crate) fn bus_worths(&self) -> i64
         ensures small { Within 841500000000000000 result }
-        ensures exact { result ≡ total (bus_worth (case_of self.now.case) (kept_prices (prices_of C.Column.value self.now.prices.now))) (rows (take self.now.case.nb self.now.case.buses.now)) }
+        ensures exact { result ≡ total (bus_worth (case_of self.now.case) (kept_prices (prices_of C.value self.now.prices.now))) (rows (take self.now.case.nb self.now.case.buses.now)) }
     {
         sum(&BusWorths { priced: *self }, self.case.nb)
     }
@@ -102,7 +102,7 @@ impl<'a, 'q, M, N, C: Column> PricedCase<'a, 'q, M, N, C> {
     // The sum of the sizes of the bus prices.
     pub(crate) fn price_sizes(&self) -> i64
         ensures small { Within 255000000 result }
-        ensures exact { result ≡ total (price_size (case_of self.now.case) (kept_prices (prices_of C.Column.value self.now.prices.now))) (rows (take self.now.case.nb self.now.case.buses.now)) }
+        ensures exact { result ≡ total (price_size (case_of self.now.case) (kept_prices (prices_of C.value self.now.prices.now))) (rows (take self.now.case.nb self.now.case.buses.now)) }
     {
         sum(&PriceSizes { priced: *self }, self.case.nb)
     }
@@ -115,7 +115,7 @@ struct Charges<'a, 'q, M, N, C> {
 }
 
 impl<'a, 'q, M, N, C: Column> Column for Charges<'a, 'q, M, N, C> {
-    ghost value = { λ s. row_value (kept_charge (case_of s.priced.case) (kept_prices (prices_of C.Column.value s.priced.prices.now))) s.priced.case.branches.now };
+    ghost value = { λ s. row_value (kept_charge (case_of s.priced.case) (kept_prices (prices_of C.value s.priced.prices.now))) s.priced.case.branches.now };
 
     fn at(&self, row: usize) -> i64 {
         if row < self.priced.case.branches.len() {
@@ -133,7 +133,7 @@ struct BusWorths<'a, 'q, M, N, C> {
 }
 
 impl<'a, 'q, M, N, C: Column> Column for BusWorths<'a, 'q, M, N, C> {
-    ghost value = { λ s. row_value (bus_worth (case_of s.priced.case) (kept_prices (prices_of C.Column.value s.priced.prices.now))) s.priced.case.buses.now };
+    ghost value = { λ s. row_value (bus_worth (case_of s.priced.case) (kept_prices (prices_of C.value s.priced.prices.now))) s.priced.case.buses.now };
 
     fn at(&self, row: usize) -> i64 {
         if row < self.priced.case.buses.len() {
@@ -151,7 +151,7 @@ struct PriceSizes<'a, 'q, M, N, C> {
 }
 
 impl<'a, 'q, M, N, C: Column> Column for PriceSizes<'a, 'q, M, N, C> {
-    ghost value = { λ s. row_value (price_size (case_of s.priced.case) (kept_prices (prices_of C.Column.value s.priced.prices.now))) s.priced.case.buses.now };
+    ghost value = { λ s. row_value (price_size (case_of s.priced.case) (kept_prices (prices_of C.value s.priced.prices.now))) s.priced.case.buses.now };
 
     fn at(&self, row: usize) -> i64 {
         if row < self.priced.case.buses.len() {

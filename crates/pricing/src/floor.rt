@@ -25,7 +25,7 @@ struct MachinePrices<'a, 'q, M, N, C, K> {
 }
 
 impl<'a, 'q, M, N, C: Column, K> Column for MachinePrices<'a, 'q, M, N, C, K> {
-    ghost value = { λ s i. price (case_of s.priced.case) (kept_prices (prices_of C.Column.value s.priced.prices.now)) (slice_index s.machines.places.now i) };
+    ghost value = { λ s i. price (case_of s.priced.case) (kept_prices (prices_of C.value s.priced.prices.now)) (slice_index s.machines.places.now i) };
 
     fn at(&self, row: usize) -> i64 {
         self.priced.price_at(self.machines.place(row) as usize)
@@ -44,7 +44,7 @@ impl<'a, 'q, M, N, C: Column> PricedCase<'a, 'q, M, N, C> {
     // The sum of the margins of a group, each machine at the price of its bus.
     fn margins<K: Machine>(&self, machines: Machines<'a, K>) -> i64
         ensures small { Within 255000000000000000 result }
-        ensures exact { result ≡ total_margins K.Machine.meaning (group_of machines.entry).machines (λ i. price (case_of self.now.case) (kept_prices (prices_of C.Column.value self.now.prices.now)) ((group_of machines.entry).place i)) }
+        ensures exact { result ≡ total_margins K.meaning (group_of machines.entry).machines (λ i. price (case_of self.now.case) (kept_prices (prices_of C.value self.now.prices.now)) ((group_of machines.entry).place i)) }
     {
         let prices = MachinePrices {
             priced: *self,
@@ -57,7 +57,7 @@ impl<'a, 'q, M, N, C: Column> PricedCase<'a, 'q, M, N, C> {
 impl<'a, 'q, M: Machine, N: Machine, C: Column> PricedCase<'a, 'q, M, N, C> {
     // The floor of the list.
     fn floor(&self) -> i64
-        ensures { result ≡ kept_floor M.Machine.meaning N.Machine.meaning (case_of self.now.case) (kept_prices (prices_of C.Column.value self.now.prices.now)) }
+        ensures { result ≡ kept_floor M.meaning N.meaning (case_of self.now.case) (kept_prices (prices_of C.value self.now.prices.now)) }
     {
         summed(
             self.margins(self.case.first),
@@ -75,7 +75,7 @@ pub fn floor<M: Machine, N: Machine, C: Column>(
     case: &Case<M, N>,
     prices: &Prices<C>,
 ) -> Result<Grains, Refusal>
-    ensures { Floored M.Machine.meaning N.Machine.meaning (case_of case.now) (prices_of C.Column.value prices.now) result }
+    ensures { Floored M.meaning N.meaning (case_of case.now) (prices_of C.value prices.now) result }
 {
     let priced = PricedCase {
         case: *case,

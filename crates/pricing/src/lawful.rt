@@ -25,7 +25,7 @@ struct BusPrices<'q, C> {
 }
 
 impl<'q, C: Column> Limit for BusPrices<'q, C> {
-    ghost broken = { λ s. bus_price_beyond (prices_of C.Column.value s.prices.now) };
+    ghost broken = { λ s. bus_price_beyond (prices_of C.value s.prices.now) };
 
     fn is_broken(&self, row: usize) -> bool {
         !is_between(-Price::LIMIT, Price::LIMIT, self.prices.bus.at(row))
@@ -39,7 +39,7 @@ struct BranchPrices<'q, C> {
 }
 
 impl<'q, C: Column> Limit for BranchPrices<'q, C> {
-    ghost broken = { λ s. branch_price_beyond (prices_of C.Column.value s.prices.now) };
+    ghost broken = { λ s. branch_price_beyond (prices_of C.value s.prices.now) };
 
     fn is_broken(&self, row: usize) -> bool {
         let congestion = self.prices.congestion.at(row);
@@ -57,7 +57,7 @@ struct Rated<'a, 'q, C> {
 }
 
 impl<'a, 'q, C: Column> Limit for Rated<'a, 'q, C> {
-    ghost broken = { λ s. row_test (unrated (prices_of C.Column.value s.prices.now)) s.branches.now };
+    ghost broken = { λ s. row_test (unrated (prices_of C.value s.prices.now)) s.branches.now };
 
     fn is_broken(&self, row: usize) -> bool {
         if row < self.branches.len() {
@@ -76,7 +76,7 @@ struct Weights<'a, 'q, M, N, C> {
 }
 
 impl<'a, 'q, M, N, C: Column> Limit for Weights<'a, 'q, M, N, C> {
-    ghost broken = { λ s. row_test (overweight (case_of s.priced.case) (kept_prices (prices_of C.Column.value s.priced.prices.now))) s.priced.case.branches.now };
+    ghost broken = { λ s. row_test (overweight (case_of s.priced.case) (kept_prices (prices_of C.value s.priced.prices.now))) s.priced.case.branches.now };
 
     fn is_broken(&self, row: usize) -> bool {
         if row < self.priced.case.branches.len() {
@@ -96,7 +96,7 @@ struct Residues<'a, 'q, M, N, C> {
 }
 
 impl<'a, 'q, M, N, C: Column> Limit for Residues<'a, 'q, M, N, C> {
-    ghost broken = { λ s. residue_beyond (case_of s.priced.case) (kept_prices (prices_of C.Column.value s.priced.prices.now)) };
+    ghost broken = { λ s. residue_beyond (case_of s.priced.case) (kept_prices (prices_of C.value s.priced.prices.now)) };
 
     fn is_broken(&self, row: usize) -> bool {
         !is_between(-RESIDUE_LIMIT, RESIDUE_LIMIT, self.priced.residue(row))
@@ -106,7 +106,7 @@ impl<'a, 'q, M, N, C: Column> Limit for Residues<'a, 'q, M, N, C> {
 impl<'a, 'q, M, N, C: Column> PricedCase<'a, 'q, M, N, C> {
     // The lowest row with a price outside its range, of the buses or else of the branches; or none.
     fn price_beyond(&self) -> Option<usize>
-        ensures { MatchOption result (BusPricesKept (case_of self.now.case) (prices_of C.Column.value self.now.prices.now) × BranchPricesKept (case_of self.now.case) (prices_of C.Column.value self.now.prices.now)) (OutOfRangeAt (case_of self.now.case) (prices_of C.Column.value self.now.prices.now)) }
+        ensures { MatchOption result (BusPricesKept (case_of self.now.case) (prices_of C.value self.now.prices.now) × BranchPricesKept (case_of self.now.case) (prices_of C.value self.now.prices.now)) (OutOfRangeAt (case_of self.now.case) (prices_of C.value self.now.prices.now)) }
     {
         let buses = rows_used(self.case.buses, self.case.nb);
         let branches = rows_used(self.case.branches, self.case.nl);
@@ -119,7 +119,7 @@ impl<'a, 'q, M, N, C: Column> PricedCase<'a, 'q, M, N, C> {
 
     // The lowest branch row in service without a rating that has a congestion price, or none.
     fn unrated(&self) -> Option<usize>
-        ensures { Lowest (UnratedRow (case_of self.now.case) (prices_of C.Column.value self.now.prices.now)) result }
+        ensures { Lowest (UnratedRow (case_of self.now.case) (prices_of C.value self.now.prices.now)) result }
     {
         let rated = Rated {
             branches: self.case.branches,
@@ -130,14 +130,14 @@ impl<'a, 'q, M, N, C: Column> PricedCase<'a, 'q, M, N, C> {
 
     // The lowest branch row in service whose weight is too large, or none.
     fn overweight(&self) -> Option<usize>
-        ensures { Lowest (WeightBeyond (case_of self.now.case) (kept_prices (prices_of C.Column.value self.now.prices.now))) result }
+        ensures { Lowest (WeightBeyond (case_of self.now.case) (kept_prices (prices_of C.value self.now.prices.now))) result }
     {
         first_broken(&Weights { priced: *self }, self.case.nl)
     }
 
     // The lowest bus row whose residue is too large, or none.
     fn residue_beyond(&self) -> Option<usize>
-        ensures { Lowest (ResidueBeyond (case_of self.now.case) (kept_prices (prices_of C.Column.value self.now.prices.now))) result }
+        ensures { Lowest (ResidueBeyond (case_of self.now.case) (kept_prices (prices_of C.value self.now.prices.now))) result }
     {
         let buses = rows_used(self.case.buses, self.case.nb);
         first_broken(&Residues { priced: *self }, buses)
@@ -145,7 +145,7 @@ impl<'a, 'q, M, N, C: Column> PricedCase<'a, 'q, M, N, C> {
 
     // Whether the list is lawful; if not, the first refusal.
     pub(crate) fn check(&self) -> Result<(), Refusal>
-        ensures { Checked (case_of self.now.case) (prices_of C.Column.value self.now.prices.now) result }
+        ensures { Checked (case_of self.now.case) (prices_of C.value self.now.prices.now) result }
     {
         if let Some(row) = self.price_beyond() {
             return Err(Refusal::OutOfRange(row));

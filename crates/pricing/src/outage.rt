@@ -57,7 +57,7 @@ impl Outage<'_> {
         stations: Stations<'c, M, N>,
         prices: &Prices<C>,
     ) -> Result<Grains, Refusal>
-        ensures { Floored M.Machine.meaning N.Machine.meaning (stations_with stations.entry self.now.rows.now) (prices_of C.Column.value prices.now) result }
+        ensures { Floored M.meaning N.meaning (stations_with stations.entry self.now.rows.now) (prices_of C.value prices.now) result }
     {
         let case = Case {
             tolerance: stations.tolerance,
@@ -80,7 +80,7 @@ fn floor_out<M: Machine, N: Machine, C: Column>(
     prices: &Prices<C>,
 ) -> Result<Grains, Refusal>
     requires { row < length branches.old }
-    ensures floored { Floored M.Machine.meaning N.Machine.meaning (without (stations_with stations.entry branches.old) row) (prices_of C.Column.value prices.now) result }
+    ensures floored { Floored M.meaning N.meaning (without (stations_with stations.entry branches.old) row) (prices_of C.value prices.now) result }
     ensures unchanged { branches.new ≡ branches.old }
 {
     let mark = branches[row].service;
@@ -108,7 +108,7 @@ pub fn floor_without<M: Machine, N: Machine, C: Column>(
     name: BranchName,
     prices: &Prices<C>,
 ) -> Result<Grains, Refusal>
-    ensures floored { FlooredWithout M.Machine.meaning N.Machine.meaning (stations_with stations.entry branches.old) (prices_of C.Column.value prices.now) name result }
+    ensures floored { FlooredWithout M.meaning N.meaning (stations_with stations.entry branches.old) (prices_of C.value prices.now) name result }
     ensures unchanged { branches.new ≡ branches.old }
 {
     let Some(row) = row_of(branches, stations.nl, &name) else {

@@ -34,7 +34,7 @@ fn weighed(susceptance: i64, from: i64, to: i64, congestion: i64) -> i64
 impl<'a, 'q, M, N, C: Column> PricedCase<'a, 'q, M, N, C> {
     // The price at the bus in that row; 0 at a row that the case lacks.
     pub(crate) fn price_at(&self, row: usize) -> i64
-        ensures { result ≡ price (case_of self.now.case) (kept_prices (prices_of C.Column.value self.now.prices.now)) row }
+        ensures { result ≡ price (case_of self.now.case) (kept_prices (prices_of C.value self.now.prices.now)) row }
     {
         let price = keep(-Price::LIMIT, Price::LIMIT, self.prices.bus.at(row));
         only_if(
@@ -45,14 +45,14 @@ impl<'a, 'q, M, N, C: Column> PricedCase<'a, 'q, M, N, C> {
 
     // The congestion price of the branch in that row.
     pub(crate) fn congestion_at(&self, row: usize) -> i64
-        ensures { result ≡ kept_price (C.Column.value self.now.prices.now.congestion row) }
+        ensures { result ≡ kept_price (C.value self.now.prices.now.congestion row) }
     {
         keep(-Price::LIMIT, Price::LIMIT, self.prices.congestion.at(row))
     }
 
     // The angle price of the branch in that row.
     pub(crate) fn angle_price_at(&self, row: usize) -> i64
-        ensures { result ≡ kept_angle_price (C.Column.value self.now.prices.now.angle row) }
+        ensures { result ≡ kept_angle_price (C.value self.now.prices.now.angle row) }
     {
         keep(
             -ANGLE_PRICE_LIMIT,
@@ -63,7 +63,7 @@ impl<'a, 'q, M, N, C: Column> PricedCase<'a, 'q, M, N, C> {
 
     // The weight of the branch in that row.
     pub(crate) fn weight(&self, row: usize, branch: &Branch) -> i64
-        ensures { result ≡ weight (case_of self.now.case) (kept_prices (prices_of C.Column.value self.now.prices.now)) (record { item = branch.now; row = row }) }
+        ensures { result ≡ weight (case_of self.now.case) (kept_prices (prices_of C.value self.now.prices.now)) (record { item = branch.now; row = row }) }
     {
         weighed(
             branch.susceptance,
@@ -75,7 +75,7 @@ impl<'a, 'q, M, N, C: Column> PricedCase<'a, 'q, M, N, C> {
 
     // Its weight and its angle price, where it is in service.
     fn pull(&self, row: usize, branch: &Branch) -> i64
-        ensures { result ≡ pull (case_of self.now.case) (kept_prices (prices_of C.Column.value self.now.prices.now)) (record { item = branch.now; row = row }) }
+        ensures { result ≡ pull (case_of self.now.case) (kept_prices (prices_of C.value self.now.prices.now)) (record { item = branch.now; row = row }) }
     {
         only_if(
             branch.service,
@@ -85,7 +85,7 @@ impl<'a, 'q, M, N, C: Column> PricedCase<'a, 'q, M, N, C> {
 
     // The residue of the bus in that row.
     pub(crate) fn residue(&self, bus: usize) -> i64
-        ensures { result ≡ residue (case_of self.now.case) (kept_prices (prices_of C.Column.value self.now.prices.now)) bus }
+        ensures { result ≡ residue (case_of self.now.case) (kept_prices (prices_of C.value self.now.prices.now)) bus }
     {
         sum(&Shares { priced: *self, bus }, self.case.nl)
     }
@@ -101,7 +101,7 @@ struct Shares<'a, 'q, M, N, C> {
 impl<'a, 'q, M, N, C: Column> Shares<'a, 'q, M, N, C> {
     // What the branch in that row adds.
     fn of(&self, row: usize, branch: &Branch) -> i64
-        ensures { result ≡ share (case_of self.now.priced.case) (kept_prices (prices_of C.Column.value self.now.priced.prices.now)) self.now.bus (record { item = branch.now; row = row }) }
+        ensures { result ≡ share (case_of self.now.priced.case) (kept_prices (prices_of C.value self.now.priced.prices.now)) self.now.bus (record { item = branch.now; row = row }) }
     {
         let pull = self.priced.pull(row, branch);
         let leaving = only_if(branch.ends.from as usize == self.bus, pull);
@@ -111,7 +111,7 @@ impl<'a, 'q, M, N, C: Column> Shares<'a, 'q, M, N, C> {
 }
 
 impl<'a, 'q, M, N, C: Column> Column for Shares<'a, 'q, M, N, C> {
-    ghost value = { λ s. row_value (share (case_of s.priced.case) (kept_prices (prices_of C.Column.value s.priced.prices.now)) s.bus) s.priced.case.branches.now };
+    ghost value = { λ s. row_value (share (case_of s.priced.case) (kept_prices (prices_of C.value s.priced.prices.now)) s.bus) s.priced.case.branches.now };
 
     fn at(&self, row: usize) -> i64 {
         if row < self.priced.case.branches.len() {

@@ -8,17 +8,17 @@ use Rattle.measure.proofs.Sums.{stands_read}
 use Rattle.machine.proofs.Totals.{total_more, all_more, total_none, all_none, true_below_counted}
 use Rattle.machine.proofs.group.total_cost.Goals as goal
 
-pub returns-in-default : goal.returns-in-default
-returns-in-default g c =
-    let f = subst (SFits w64) c.at.ensures (record { sfits = c.at.type-inv }) in
+pub returns-in_default : goal.returns-in_default
+returns-in_default g c =
+    let f = subst (SFits w64) c.at.ensures (record { sfits = c.at.type_inv }) in
     record {
       item = c.index-machines-i.result;
       stands = stands_read c.args.machines.now c.loop-i.i c.index-machines-i.result c.loop-i-test.true c.index-machines-i.is;
-      holds = simp (to_z-of_z, f, c.at.ensures) at c.in-default.ensures;
+      holds = simp (to_z-of_z, f, c.at.ensures) at c.in_default.ensures;
     }
 
-pub overflow-add-total : goal.overflow-add-total
-overflow-add-total g c =
+pub overflow_add-total : goal.overflow_add-total
+overflow_add-total g c =
     let k = c.in-Some.ensures in
     let r = (g.met.M.Machine.lawful c.index-machines-i.result).answer_range _ k.0 in
     omega (arith, ints, r, k.1, c.loop-i.invariant.1, c.loop-i.total-is, c.loop-i-test.true, c.requires.few)
@@ -28,7 +28,7 @@ loop-i-preserved g c =
     let M = g.M.Machine.meaning in
     let p = g.C.Column.value c.args.powers.now in
     let m = c.index-machines-i.result in
-    let f = subst (SFits w64) c.at.ensures (record { sfits = c.at.type-inv }) in
+    let f = subst (SFits w64) c.at.ensures (record { sfits = c.at.type_inv }) in
     let k = simp (to_z-of_z, f, c.at.ensures) at c.in-Some.ensures in
     let r = (g.met.M.Machine.lawful m).answer_range (p c.loop-i.i) k.0 in
     let s = total_more c.args.machines.now c.loop-i.i m c.loop-i-test.true c.index-machines-i.is (λ (r : Row _). M.cost_answer r.item (p r.row)) in (

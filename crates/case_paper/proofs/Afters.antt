@@ -1,25 +1,24 @@
 -- Where the reader is after words of a known shape; so those shapes exclude one another, and each is unique.
-use Rattle.std.proofs.Common.{◌≡◌, ℕ, zero, suc, ◌+◌, ◌-◌, ◌<◌, ◌≤◌, ◌⊎◌, List, [], ◌∷◌, ◌++◌, length, get_or, take, drop, sym, refl, ap, ◌∙◌, subst, inl, inr, arith}
+use Rattle.std.proofs.Common.{◌≡◌, ℕ, suc, ◌+◌, ◌-◌, ◌<◌, List, [], ◌∷◌, ◌++◌, length, take, drop, sym, refl, ap, ◌∙◌, inl, inr, arith}
 use Rattle.std.specs.List.{flat_map, AllByRecursion as All}
 use Rattle.std.proofs.lemmas.List.{append_assoc, append-nil, length-append, length-take-le, take_at, drop_at, take-take, flat_map_more, take_all, take-append-drop, same_from_push}
 use Rattle.std.proofs.ByRecursion.{All-push}
 use Rattle.std.proofs.lemmas.Bool.{cases_lt}
-use Rattle.word.specs.Word.{kind_of, word_of}
+use Rattle.word.specs.Word.{kind_of}
 use Rattle.word.specs.Slot.{Matches}
 use Rattle.word.specs.declared.kind.Kind.TheVariants as kind
 use Rattle.word.specs.declared.place.Place.{Place}
 use Rattle.word.specs.declared.place.Place.TheVariants as place
-use Rattle.word.specs.declared.slot.Slot.{Slot}
 use Rattle.word.proofs.Machines as machine
 use Rattle.word.proofs.Words.{kind_word}
 use Rattle.word.proofs.Slots.{matches_length}
-use Rattle.case_paper.specs.Case.{head_slots, FirstWord, amounts_of, sort_of, sort_kind, Record, record_words, end_word, Formed, CaseForm}
+use Rattle.case_paper.specs.Case.{head_slots, FirstWord, amounts_of, sort_of, Record, record_words, end_word, Formed, CaseForm}
 use Rattle.case_paper.specs.CaseFault.{Whole, Inside, OpenWord, Completes}
 use Rattle.case_paper.specs.State.{after_sort, open_first, next, Takes}
 use Rattle.case_paper.specs.declared.sort.Sort.{Sort}
 use Rattle.case_paper.specs.declared.state.State.{State}
 use Rattle.case_paper.specs.declared.state.State.TheVariants.{Head, Counts, Next, Amounts, Done}
-use Rattle.case_paper.proofs.States.{first_kind, first-sort, first-no_end, sort_no_end, next-end, next-record, next_more, next_last, amounts_some}
+use Rattle.case_paper.proofs.States.{first-sort, first-no_end, next-record, next_more, next_last, amounts_some}
 use Rattle.case_paper.proofs.Cases.{Final, ∷-parts}
 
 abbrev pub run : State → List ℕ → State

@@ -1,13 +1,13 @@
 -- The reader of a case takes exactly the words of a case.
-use Rattle.std.proofs.Common.{◌≡◌, ℕ, zero, suc, ◌+◌, ◌-◌, ◌/◌, ◌%◌, ◌<◌, ◌≤◌, Bool, true, false, cond, eqb, ltb, ◌⊎◌, List, [], ◌∷◌, ◌++◌, length, get_or, drop, replicate, pos, negsuc, sym, refl, ap, ◌∙◌, subst, inl, inr, arith, rules}
+use Rattle.std.proofs.Common.{◌≡◌, ℕ, zero, suc, ◌+◌, ◌-◌, ◌<◌, ◌≤◌, true, false, List, [], ◌∷◌, ◌++◌, length, get_or, drop, replicate, pos, negsuc, sym, refl, ap, ◌∙◌, subst, inl, inr, arith, rules}
 use Rattle.std.specs.List.{flat_map, AllByRecursion as All}
-use Rattle.std.proofs.lemmas.List.{append_assoc, drop_more, drop_all, length-drop}
+use Rattle.std.proofs.lemmas.List.{append_assoc, drop_more, drop_all}
 use Rattle.std.proofs.ByRecursion.{All-append, All-get_or}
-use Rattle.std.proofs.lemmas.Bool.{cases_eq, cases_lt, both_ways}
+use Rattle.std.proofs.lemmas.Bool.{cases_lt, both_ways}
 use Rattle.std.proofs.lemmas.Int.{ints}
-use Rattle.word.specs.Word.{kind_number, kind_of, payload_of, word_of, amount_of, amount_word}
-use Rattle.word.specs.Slot.{Byte, Fits, InRange, Matches, slot_kind}
-use Rattle.word.specs.Place.{may_stand, among, kinds_at}
+use Rattle.word.specs.Word.{kind_of, payload_of, word_of, amount_word}
+use Rattle.word.specs.Slot.{Fits, InRange, Matches, slot_kind}
+use Rattle.word.specs.Place.{may_stand}
 use Rattle.word.specs.declared.kind.Kind.{Kind}
 use Rattle.word.specs.declared.kind.Kind.TheVariants as kind
 use Rattle.word.specs.declared.place.Place.{Place}
@@ -15,10 +15,10 @@ use Rattle.word.specs.declared.place.Place.TheVariants as place
 use Rattle.word.specs.declared.slot.Slot.{Slot}
 use Rattle.word.specs.declared.slot.Slot.TheVariants as slot
 use Rattle.word.proofs.Machines as machine
-use Rattle.word.proofs.Words.{kind_word, payload_word, word_at, amount_kind, amount_back}
-use Rattle.word.proofs.Fillings.{head_known, end_known, head_word, end_word-is, amount_fits}
+use Rattle.word.proofs.Words.{kind_word, word_at}
+use Rattle.word.proofs.Fillings.{end_known, amount_fits}
 use Rattle.case_paper.specs.Case.{FirstWord, amounts_of, power_slot, price_slot, head_amounts, head_slots, rank, sort_kind, sort_of, Record, record_words, end_word, Formed, Sorted, CaseForm}
-use Rattle.case_paper.specs.State.{after_sort, state_place, Ranges, next, Takes, Good, AtRecord}
+use Rattle.case_paper.specs.State.{after_sort, state_place, next, Takes, Good, AtRecord}
 use Rattle.case_paper.specs.declared.sort.Sort.{Sort}
 use Rattle.case_paper.specs.declared.sort.Sort.TheVariants.{Bus, Stepped, Curved, Branch}
 use Rattle.case_paper.specs.declared.state.State.{State}

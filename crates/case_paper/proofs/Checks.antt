@@ -1,5 +1,5 @@
 -- The reader of a case after some of its words, and the four ways in which it stops at a word.
-use Rattle.std.proofs.Common.{◌≡◌, ℕ, ◌+◌, ◌<◌, ◌≤◌, true, ◌⊎◌, List, [], ◌∷◌, ◌++◌, length, get_or, take, sym, refl, ap, ◌∙◌, subst, inl, inr, arith}
+use Rattle.std.proofs.Common.{◌≡◌, ℕ, ◌+◌, ◌<◌, ◌≤◌, true, List, [], ◌∷◌, ◌++◌, length, get_or, take, sym, refl, ap, ◌∙◌, subst, inl, inr, arith}
 use Rattle.std.proofs.lemmas.List.{take_more, take_all, append-nil, append_assoc}
 use Rattle.word.specs.Word.{kind_of}
 use Rattle.word.specs.Form.{Begins, Refused, Ended, Exact}
@@ -11,7 +11,7 @@ use Rattle.word.proofs.Forms.{refused_like}
 use Rattle.word.proofs.Exacts.{exact}
 use Rattle.word.proofs.Machines as machine
 use Rattle.case_paper.specs.Case.{CaseForm, Record}
-use Rattle.case_paper.specs.CaseFault.{OpenWord, Inside}
+use Rattle.case_paper.specs.CaseFault.{OpenWord}
 use Rattle.case_paper.specs.State.{state_place, open_first, next, Takes, Missteps, Good}
 use Rattle.case_paper.specs.declared.sort.Sort.{Sort}
 use Rattle.case_paper.specs.declared.state.State.{State}

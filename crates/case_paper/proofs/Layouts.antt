@@ -1,9 +1,9 @@
 -- What is due at a place of a list of slots that is made of runs.
-use Rattle.std.proofs.Common.{◌≡◌, ℕ, suc, ◌-◌, ◌<◌, ◌≤◌, List, [], ◌∷◌, ◌++◌, length, get_or, replicate, Some, None, Option, sym, refl, ◌∙◌, subst, arith}
+use Rattle.std.proofs.Common.{ℕ, ◌-◌, ◌<◌, ◌≤◌, List, ◌++◌, replicate, Some, None, Option, sym, ◌∙◌, arith}
 use Rattle.std.proofs.lemmas.List.{length-append, length-replicate, get_or_append_left, get_or-append_right, get_or-replicate}
 use Rattle.word.specs.Run.{Due}
 use Rattle.word.specs.declared.slot.Slot.{Slot}
-use Rattle.word.specs.declared.slot.Slot.TheVariants.{Head, End}
+use Rattle.word.specs.declared.slot.Slot.TheVariants.{End}
 
 -- inside a run of n slots
 pub due_in : (n : ℕ) (s : Slot) (ts : List Slot) (i : ℕ) → i < n → Due (replicate n s ++ ts) i (Some s)

@@ -1,12 +1,10 @@
 -- A lawful case is not refused, and what is refused is so by one fault.
-use Rattle.std.proofs.Common.{◌≡◌, ℕ, suc, ◌+◌, ◌-◌, ◌<◌, ◌≤◌, true, false, cond, eqb, ◌⊎◌, List, [], ◌∷◌, ◌++◌, length, get_or, take, drop, sym, refl, ap, ◌∙◌, subst, inl, inr, arith}
+use Rattle.std.proofs.Common.{◌≡◌, ℕ, ◌+◌, ◌<◌, cond, eqb, List, [], ◌∷◌, ◌++◌, length, get_or, take, drop, sym, refl, ap, ◌∙◌, subst, inl, inr, arith}
 use Rattle.std.specs.List.{flat_map, AllByRecursion as All}
-use Rattle.std.proofs.lemmas.List.{append_assoc, append-nil, take_more, take-append-drop, length-append, drop_more}
-use Rattle.std.proofs.ByRecursion.{All-append}
-use Rattle.std.proofs.lemmas.Bool.{cases_order, cases_eq, eq-eqb, cond-true}
+use Rattle.std.proofs.lemmas.List.{append_assoc, append-nil, take-append-drop, drop_more}
+use Rattle.std.proofs.lemmas.Bool.{cases_order, eq-eqb, cond-true}
 use Rattle.word.specs.Fault.{refusal_number}
 use Rattle.word.specs.Word.{kind_of, word_of}
-use Rattle.word.specs.Form.{Refused}
 use Rattle.word.specs.declared.fault.WordFault.{WordFault}
 use Rattle.word.specs.declared.fault.WordRefusal.{WordRefusal}
 use Rattle.word.specs.declared.fault.WordRefusal.TheVariants.{Stops, Kind as KindRefusal, Range, Follows}
@@ -15,18 +13,15 @@ use Rattle.word.proofs.Words.{kind_word}
 use Rattle.case_paper.specs.Case.{rank, Record, record_words, end_word, Formed, CaseForm}
 use Rattle.case_paper.specs.Order.{InOrder}
 use Rattle.case_paper.specs.Fault.{record_number}
-use Rattle.case_paper.specs.CaseFault.{Whole, count_rank, head_count, CountsMet, HasRow, LawfulCase, OpenWord, EarlyEnd, Completes, Shows, Sooner, RefusedCase, CaseExact}
+use Rattle.case_paper.specs.CaseFault.{Whole, count_rank, head_count, CountsMet, LawfulCase, OpenWord, Shows, RefusedCase, CaseExact}
 use Rattle.case_paper.specs.declared.sort.Sort.{Sort}
 use Rattle.case_paper.specs.declared.sort.Sort.TheVariants.{Bus, Stepped, Curved, Branch}
 use Rattle.case_paper.specs.declared.fault.RecordFault.{RecordFault}
 use Rattle.case_paper.specs.declared.fault.RecordFault.TheVariants.{Word, Order, Count}
-use Rattle.case_paper.specs.State.{next}
-use Rattle.case_paper.specs.declared.state.State.{State}
-use Rattle.case_paper.specs.declared.state.State.TheVariants.{Head, Next, Done}
 use Rattle.case_paper.proofs.States.{first-no_end}
-use Rattle.case_paper.proofs.Afters.{run, run-append, run-whole, next-done, open_same, whole_of, completes_whole, completes_same}
+use Rattle.case_paper.proofs.Afters.{open_same, whole_of, completes_whole, completes_same}
 use Rattle.case_paper.proofs.Cases.{∷-parts}
-use Rattle.case_paper.proofs.Checks.{form_exact, whole-done}
+use Rattle.case_paper.proofs.Checks.{form_exact}
 
 -- ---- the same number at the same word is the same fault
 number_same : (r t : WordRefusal) → refusal_number r ≡ refusal_number t → r ≡ t

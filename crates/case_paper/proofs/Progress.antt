@@ -1,13 +1,13 @@
 -- The reader of a case with the records so far: in order, counted, and no fault shown.
-use Rattle.std.proofs.Common.{◌≡◌, ℕ, zero, suc, ◌+◌, ◌-◌, ◌<◌, ◌≤◌, Bool, true, false, cond, eqb, ◌⊎◌, List, [], ◌∷◌, ◌++◌, length, get_or, take, drop, set, sym, refl, ap, ◌∙◌, subst, inl, inr, arith}
+use Rattle.std.proofs.Common.{◌≡◌, ℕ, zero, suc, ◌+◌, ◌-◌, ◌<◌, ◌≤◌, cond, eqb, ◌⊎◌, List, [], ◌∷◌, ◌++◌, length, get_or, take, drop, set, sym, refl, ap, ◌∙◌, subst, inl, inr, arith}
 use Rattle.std.specs.List.{flat_map, AllByRecursion as All}
-use Rattle.std.proofs.lemmas.List.{append_assoc, append-nil, take_more, take_all, length-append, length-take-le, drop_at, take-append-drop, get_or-set_same, get_or-set_other, get_or-take, get_or_append_left, take_at, take-take, length-set, length-take, same_from_push}
+use Rattle.std.proofs.lemmas.List.{append_assoc, append-nil, take_more, take_all, length-append, length-take-le, drop_at, get_or-set_same, get_or-set_other, get_or-take, get_or_append_left, take_at, take-take, length-set, length-take, same_from_push}
 use Rattle.std.proofs.lemmas.Slice.{between_is}
 use Rattle.std.proofs.ByRecursion.{All-push}
 use Rattle.std.proofs.lemmas.Bool.{cases_eq, cases_lt, eq-eqb, ne_eqb, cond-true, cond-false}
 use Rattle.word.specs.Fault.{refusal_number}
 use Rattle.word.specs.Word.{kind_of, payload_of, word_of}
-use Rattle.word.specs.Form.{Begins, Refused}
+use Rattle.word.specs.Form.{Refused}
 use Rattle.word.specs.declared.kind.Kind.TheVariants as kind
 use Rattle.word.specs.declared.place.Place.{Place}
 use Rattle.word.specs.declared.fault.WordFault.{WordFault}
@@ -15,21 +15,21 @@ use Rattle.word.specs.declared.fault.WordRefusal.{WordRefusal}
 use Rattle.word.specs.declared.fault.WordRefusal.TheVariants.{Stops, Kind as KindRefusal, Range, Follows}
 use Rattle.word.proofs.Slots.{matches_length}
 use Rattle.word.proofs.Words.{kind_word}
-use Rattle.case_paper.specs.Case.{head_slots, FirstWord, amounts_of, rank, Record, record_words, end_word, Formed, CaseForm}
+use Rattle.case_paper.specs.Case.{head_slots, amounts_of, rank, Record, record_words, end_word, CaseForm}
 use Rattle.case_paper.specs.Order.{InOrder}
 use Rattle.case_paper.specs.Fault.{record_number}
 use Rattle.case_paper.specs.Complete.{amounts_read, Rowed, Counted, Ending, Unsound}
-use Rattle.case_paper.specs.CaseFault.{Whole, count_rank, head_count, CountsMet, HasRow, LawfulCase, OpenWord, EarlyEnd, Completes, Shows, Sooner, RefusedCase}
-use Rattle.case_paper.specs.State.{after_sort, open_first, next, Takes, Missteps, Good}
+use Rattle.case_paper.specs.CaseFault.{Whole, count_rank, head_count, CountsMet, HasRow, LawfulCase, OpenWord, EarlyEnd, Completes, Shows, RefusedCase}
+use Rattle.case_paper.specs.State.{open_first, next, Takes, Missteps, Good}
 use Rattle.case_paper.specs.declared.sort.Sort.{Sort}
 use Rattle.case_paper.specs.declared.state.State.{State}
 use Rattle.case_paper.specs.declared.state.State.TheVariants.{Head, Counts, Next, Amounts, Done}
 use Rattle.case_paper.specs.declared.fault.RecordFault.{RecordFault}
 use Rattle.case_paper.specs.declared.fault.RecordFault.TheVariants.{Word, Order, Count}
-use Rattle.case_paper.proofs.States.{end_or_not, next-record, next-count, next-counted, next_more, next_last, next-end}
+use Rattle.case_paper.proofs.States.{end_or_not, next-record, next-count, next-counted, next_more, next_last}
 use Rattle.case_paper.proofs.Stages.{Part, Ends, Stage, StageAt, stage_same, amount_more, record_of, part_formed, part_whole}
-use Rattle.case_paper.proofs.Checks.{Read, read_none, read_next, read_begins, read_all, open_word, read_stops, read_misstep, begins_quiet, form_exact, whole-done}
-use Rattle.case_paper.proofs.Afters.{run, run-whole, run_inside, whole_same, whole_of, completes_inside, completes_whole, completes_same, next-amounts, next-done, amounts_done}
+use Rattle.case_paper.proofs.Checks.{Read, read_none, read_next, read_begins, read_all, open_word, read_stops, read_misstep, begins_quiet, form_exact}
+use Rattle.case_paper.proofs.Afters.{run-whole, run_inside, whole_same, whole_of, completes_inside, completes_whole, completes_same, next-amounts, next-done, amounts_done}
 use Rattle.case_paper.proofs.Outcomes.{rank-small, no_more}
 
 -- the counts are those of the records, by rank

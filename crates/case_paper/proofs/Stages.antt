@@ -1,10 +1,10 @@
 -- What the words read so far are, at each state of the reader.
-use Rattle.std.proofs.Common.{◌≡◌, ℕ, zero, suc, ◌+◌, ◌<◌, ◌≤◌, ◌⊎◌, List, [], ◌∷◌, ◌++◌, length, get_or, take, sym, refl, ap, ◌∙◌, subst, inl, inr, arith}
+use Rattle.std.proofs.Common.{◌≡◌, ℕ, suc, ◌+◌, ◌<◌, ◌≤◌, List, [], ◌∷◌, ◌++◌, length, get_or, take, sym, refl, ap, ◌∙◌, subst, inl, inr, arith}
 use Rattle.std.specs.List.{flat_map, AllByRecursion as All}
 use Rattle.std.proofs.lemmas.List.{append_assoc, append-nil, take_more, take_all, length-append, flat_map_more}
 use Rattle.std.proofs.ByRecursion.{All-push}
 use Rattle.std.proofs.lemmas.Bool.{cases_lt}
-use Rattle.word.specs.Word.{kind_of, payload_of, word_of}
+use Rattle.word.specs.Word.{kind_of, word_of}
 use Rattle.word.specs.Slot.{Fits, Matches}
 use Rattle.word.specs.declared.kind.Kind.TheVariants as kind
 use Rattle.word.specs.declared.place.Place.{Place}
@@ -13,9 +13,9 @@ use Rattle.word.specs.declared.slot.Slot.TheVariants as slot
 use Rattle.word.proofs.Slots.{matches_join}
 use Rattle.word.proofs.Words.{word_at}
 use Rattle.word.proofs.Fillings.{end_known}
-use Rattle.case_paper.specs.Case.{head_slots, head_amounts, FirstWord, amounts_of, sort_of, Record, record_words, end_word, Formed}
-use Rattle.case_paper.specs.CaseFault.{Whole, Inside, OpenWord}
-use Rattle.case_paper.specs.State.{after_sort, open_first, next, Takes, Good}
+use Rattle.case_paper.specs.Case.{head_slots, head_amounts, FirstWord, amounts_of, Record, record_words, end_word, Formed}
+use Rattle.case_paper.specs.CaseFault.{Whole, Inside}
+use Rattle.case_paper.specs.State.{after_sort, next, Takes, Good}
 use Rattle.case_paper.specs.declared.sort.Sort.{Sort}
 use Rattle.case_paper.specs.declared.state.State.{State}
 use Rattle.case_paper.specs.declared.state.State.TheVariants.{Head, Counts, Next, Amounts, Done}

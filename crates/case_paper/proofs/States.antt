@@ -1,15 +1,14 @@
 -- The states of the reader of a case.
-use Rattle.std.proofs.Common.{◌≡◌, ℕ, suc, ◌+◌, ◌-◌, ◌/◌, ◌%◌, ◌<◌, ◌≤◌, Bool, true, false, cond, eqb, ltb, ◌⊎◌, List, [], ◌∷◌, ◌++◌, length, get_or, replicate, sym, refl, ap, ◌∙◌, subst, inl, inr, arith}
+use Rattle.std.proofs.Common.{◌≡◌, ℕ, ◌+◌, ◌<◌, ◌≤◌, ltb, ◌⊎◌, length, sym, refl, ap, ◌∙◌, subst, inl, inr, arith}
 use Rattle.std.proofs.lemmas.List.{length-append, length-replicate}
-use Rattle.std.proofs.lemmas.Bool.{cond-true, cond-false, lt-ltb, le-ltb, cases_lt, cases_eq}
+use Rattle.std.proofs.lemmas.Bool.{cond-true, cond-false, lt-ltb, le-ltb, cases_lt}
 use Rattle.word.specs.Word.{kind_number, kind_of, payload_of}
-use Rattle.word.specs.Place.{may_stand}
 use Rattle.word.specs.declared.kind.Kind.{Kind}
 use Rattle.word.specs.declared.kind.Kind.TheVariants as kind
 use Rattle.word.specs.declared.place.Place.{Place}
 use Rattle.word.specs.declared.place.Place.TheVariants as place
-use Rattle.case_paper.specs.Case.{sort_at, sort_of, FirstWord, amounts_of, power_slot, price_slot, sort_kind}
-use Rattle.case_paper.specs.State.{after_sort, state_place, Ranges, begun, next, Takes, Good, AtRecord}
+use Rattle.case_paper.specs.Case.{sort_at, sort_of, FirstWord, amounts_of, sort_kind}
+use Rattle.case_paper.specs.State.{after_sort, begun, next, Takes, Good, AtRecord}
 use Rattle.case_paper.specs.declared.sort.Sort.{Sort}
 use Rattle.case_paper.specs.declared.sort.Sort.TheVariants.{Bus, Stepped, Curved, Branch}
 use Rattle.case_paper.specs.declared.state.State.{State}

@@ -1,5 +1,5 @@
 -- The steps of the reader of a case.
-use Rattle.std.specs.Prelude.{◌≡◌, ℕ, ◌+◌, ◌<◌, Bool, true, cond, length, Some, None, Option, ◌≢◌, nat_lt, slice_index_or}
+use Rattle.std.specs.Prelude.{◌≡◌, ℕ, ◌+◌, ◌<◌, true, cond, length, Some, None, Option, ◌≢◌, nat_lt, slice_index_or}
 use Rattle.word.specs.Word.{kind_of, payload_of}
 use Rattle.word.specs.Slot.{InRange}
 use Rattle.word.specs.Place.{may_stand}

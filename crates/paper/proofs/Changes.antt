@@ -1,13 +1,13 @@
 -- The places of a change paper say what its words say.
-use Rattle.std.proofs.Common.{◌≡◌, ℕ, zero, suc, Bool, true, false, ◌⊎◌, List, [], ◌∷◌, get_or, ℤ, pos, negsuc, ◌≤ℤ◌, sym, refl, ap, ◌∙◌, subst, inl, inr, arith}
+use Rattle.std.proofs.Common.{◌≡◌, ℕ, zero, suc, Bool, true, false, List, [], ◌∷◌, get_or, ℤ, pos, negsuc, ◌≤ℤ◌, sym, refl, ap, ◌∙◌, subst, arith}
 use Rattle.std.proofs.lemmas.Int.{ints}
 use Rattle.std.proofs.lemmas.Bool.{true≢false}
 use Rattle.names.specs.declared.branch.BranchName.{BranchName}
-use Rattle.word.specs.Word.{kind_of, payload_of, amount_of, word_of, amount_word}
+use Rattle.word.specs.Word.{payload_of, amount_of, amount_word}
 use Rattle.word.specs.Slot.{Matches}
 use Rattle.word.specs.Run.{slots_of}
 use Rattle.word.specs.declared.run.Run.{Run}
-use Rattle.word.specs.declared.slot.Slot.TheVariants.{Head, Bus, Branch, Amount, End}
+use Rattle.word.specs.declared.slot.Slot.TheVariants.{Head, Bus, Branch, End}
 use Rattle.word.proofs.Words.{amount_same}
 use Rattle.word.proofs.Fillings.{head_word, head_fits, end_word-is, end_fits, amount_fits}
 use Rattle.paper.specs.Range.{power_slot, mark_slot}

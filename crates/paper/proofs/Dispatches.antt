@@ -1,18 +1,17 @@
 -- The places of a dispatch say what its words say; and a dispatch written out.
-use Rattle.std.proofs.Common.{◌≡◌, ℕ, zero, suc, ◌+◌, ◌<◌, ◌≤◌, List, [], ◌∷◌, ◌++◌, map, length, get_or, take, drop, set, replicate, ℤ, pos, negsuc, sym, refl, ap, ◌∙◌, subst, arith}
+use Rattle.std.proofs.Common.{◌≡◌, ℕ, zero, suc, ◌+◌, ◌≤◌, List, [], ◌∷◌, ◌++◌, map, length, get_or, take, drop, set, replicate, ℤ, pos, negsuc, sym, refl, ap, ◌∙◌, subst, arith}
 use Rattle.std.specs.List.{AllByRecursion as All}
 use Rattle.std.proofs.lemmas.List.{length-append, length-map, length-replicate, append_assoc, ext_get_or}
 use Rattle.std.proofs.ByRecursion.{All-weaker}
 use Rattle.std.proofs.lemmas.Int.{ints}
-use Rattle.word.specs.Word.{kind_of, payload_of, amount_of, word_of, amount_word}
+use Rattle.word.specs.Word.{amount_of, word_of, amount_word}
 use Rattle.word.specs.Laws.{Short}
 use Rattle.word.specs.Slot.{Matches}
 use Rattle.word.specs.Run.{slots_of, in_turn}
-use Rattle.word.specs.Column.{column_value, value_of}
+use Rattle.word.specs.Column.{column_value}
 use Rattle.word.specs.declared.kind.Kind.TheVariants as kind
 use Rattle.word.specs.declared.run.Run.{Run}
-use Rattle.word.specs.declared.slot.Slot.{Slot}
-use Rattle.word.specs.declared.slot.Slot.TheVariants.{Head, Amount, End}
+use Rattle.word.specs.declared.slot.Slot.TheVariants.{Head, End}
 use Rattle.word.proofs.Fillings.{head_word, head_fits, end_fits, last_word, run_words, words_run, column_run}
 use Rattle.word.proofs.Slots.{matches_join, matches_parts}
 use Rattle.paper.specs.Range.{Power, Angle, power_slot, angle_slot}

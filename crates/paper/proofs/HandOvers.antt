@@ -1,11 +1,11 @@
 -- The places of a hand-over paper say what its words say.
 use Rattle.std.proofs.Common.{◌≡◌, ℕ, ◌<◌, List, [], ◌∷◌, get_or, ℤ, pos, negsuc, nat_abs, ◌≤ℤ◌, sym, refl, ap, ◌∙◌, subst, arith}
 use Rattle.std.proofs.lemmas.Int.{ints}
-use Rattle.word.specs.Word.{kind_of, payload_of, amount_of, word_of, amount_word}
+use Rattle.word.specs.Word.{amount_of, amount_word}
 use Rattle.word.specs.Slot.{Matches}
 use Rattle.word.specs.Run.{slots_of}
 use Rattle.word.specs.declared.run.Run.{Run}
-use Rattle.word.specs.declared.slot.Slot.TheVariants.{Head, Amount, End}
+use Rattle.word.specs.declared.slot.Slot.TheVariants.{Head, End}
 use Rattle.word.proofs.Words.{amount_same}
 use Rattle.word.proofs.Fillings.{head_word, head_fits, end_word-is, end_fits, amount_fits}
 use Rattle.paper.specs.Range.{attendant_slot}

@@ -1,5 +1,5 @@
 -- The places of a paper of fixed length say what its form says.
-use Rattle.std.proofs.Common.{◌≡◌, ℕ, List, [], ◌∷◌, ◌++◌, ℤ, sym, subst, arith}
+use Rattle.std.proofs.Common.{◌≡◌, ℕ, List, ◌∷◌, ◌++◌, ℤ, sym, subst, arith}
 use Rattle.std.proofs.lemmas.Int.{ints}
 use Rattle.word.specs.Form.{Form, Ended, Exact}
 use Rattle.word.specs.Fault.{RefusedWord}

@@ -1,5 +1,5 @@
 -- The places of a price list say what its words say.
-use Rattle.std.proofs.Common.{◌≡◌, ℕ, zero, suc, ◌+◌, ◌*◌, ◌<◌, ◌⊎◌, List, [], ◌∷◌, ◌++◌, map, length, get_or, replicate, ℤ, pos, negsuc, sym, refl, ap, ◌∙◌, subst, inl, inr, arith}
+use Rattle.std.proofs.Common.{◌≡◌, ℕ, zero, suc, ◌+◌, ◌*◌, ◌<◌, List, [], ◌∷◌, ◌++◌, map, length, get_or, replicate, pos, negsuc, sym, refl, ap, ◌∙◌, subst, inl, inr, arith}
 use Rattle.std.specs.List.{flat_map, AllByRecursion as All}
 use Rattle.std.proofs.lemmas.List.{length-append, length-map, length-replicate, append_assoc, get_or-append-add, get_or_past}
 use Rattle.std.proofs.ByRecursion.{All-weaker}
@@ -9,18 +9,18 @@ use Rattle.word.specs.Word.{amount_of, word_of, amount_word}
 use Rattle.word.specs.Laws.{Short}
 use Rattle.word.specs.Slot.{Matches}
 use Rattle.word.specs.Run.{slots_of, in_turn}
-use Rattle.word.specs.Column.{column_value, value_of}
+use Rattle.word.specs.Column.{column_value}
 use Rattle.word.specs.declared.kind.Kind.TheVariants as kind
 use Rattle.word.specs.declared.run.Run.{Run}
 use Rattle.word.specs.declared.slot.Slot.{Slot}
-use Rattle.word.specs.declared.slot.Slot.TheVariants.{Head, Branch, Amount, End}
+use Rattle.word.specs.declared.slot.Slot.TheVariants.{Head, Branch, End}
 use Rattle.word.proofs.Words.{amount_same, amount_back}
 use Rattle.word.proofs.Columns.{value_in, value_out}
 use Rattle.word.proofs.Fillings.{head_word, head_fits, end_fits, last_word, run_words, words_run, column_run, amount_fits}
 use Rattle.word.proofs.Slots.{matches_join, matches_parts}
 use Rattle.names.specs.declared.branch.BranchName.{BranchName}
-use Rattle.paper.specs.Range.{Priced, AnglePriced, price_slot, angle_price_slot}
-use Rattle.paper.specs.Name.{branch_of, branch_word, Named}
+use Rattle.paper.specs.Range.{Priced, price_slot, angle_price_slot}
+use Rattle.paper.specs.Name.{branch_of, Named}
 use Rattle.paper.specs.Prices.{BranchPrices, Prices, pair_words, list_words, prices_words, PairPriced, LawfulPrices, PricesForm, GivesPrices, branch_run, ColumnsFrom}
 use Rattle.paper.specs.Trial.{trial_words, TrialForm}
 use Rattle.paper.specs.declared.prices.PricesPaper.{PricesPaper}

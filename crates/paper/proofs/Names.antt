@@ -1,6 +1,6 @@
 -- Names in words, there and back.
-use Rattle.std.proofs.Common.{◌≡◌, ℕ, ◌+◌, ◌*◌, ◌/◌, ◌%◌, ◌<◌, ◌≤◌, sym, refl, ap, ◌∙◌, arith}
-use Rattle.word.specs.Word.{word_of, payload_of, kind_of}
+use Rattle.std.proofs.Common.{◌≡◌, ℕ, ◌+◌, ◌*◌, ◌/◌, ◌%◌, ◌<◌, ap, ◌∙◌, arith}
+use Rattle.word.specs.Word.{word_of, payload_of}
 use Rattle.word.specs.Slot.{Byte, Fits}
 use Rattle.word.specs.declared.kind.Kind.TheVariants as kind
 use Rattle.word.specs.declared.slot.Slot.TheVariants.{Bus, Branch}

@@ -1,5 +1,5 @@
 -- The steps of a loop that fills a table from a list, and of one that writes a list over part of another.
-use Rattle.std.proofs.Common.{◌≡◌, ℕ, ◌+◌, ◌-◌, ◌<◌, ◌≤◌, List, [], ◌∷◌, ◌++◌, map, length, get_or, take, drop, set, sym, refl, ap, ◌∙◌, subst, arith}
+use Rattle.std.proofs.Common.{◌≡◌, ℕ, ◌+◌, ◌-◌, ◌<◌, List, [], ◌∷◌, ◌++◌, map, length, get_or, take, drop, set, sym, ap, ◌∙◌, arith}
 use Rattle.std.proofs.lemmas.List.{take_more_set, map_more, get_or-drop, length-drop, length-take-le, length-map, set-append_right, drop_more, append_assoc, drop-drop, drop_at, take_at, length-append}
 
 pub fill_step : {X Y : Type 0} (f : X → Y) (xs : List X) (table : List Y) (from i : ℕ) (d : X) (z : Y) → take i table ≡ map f (take i (drop from xs)) → i < length table → from + i < length xs → z ≡ f (get_or xs (from + i) d) → take (i + 1) (set table i z) ≡ map f (take (i + 1) (drop from xs))

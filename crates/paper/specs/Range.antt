@@ -1,5 +1,5 @@
 -- The ranges of the amounts in papers, in whole units.
-use Rattle.std.specs.Prelude.{ℤ, pos, negsuc, ◌≤ℤ◌}
+use Rattle.std.specs.Prelude.{ℤ, pos, negsuc}
 use Rattle.measure.specs.Range.{Within}
 use Rattle.word.specs.declared.slot.Slot.{Slot}
 use Rattle.word.specs.declared.slot.Slot.TheVariants.{Amount}

@@ -1,9 +1,8 @@
 -- A form none of whose papers begins another is read in one way.
-use Rattle.std.proofs.Common.{◌≡◌, ℕ, suc, ◌+◌, ◌<◌, ◌≤◌, ◌⊎◌, List, [], ◌∷◌, ◌++◌, length, get_or, take, drop, sym, refl, ap, ◌∙◌, subst, inl, inr, arith}
+use Rattle.std.proofs.Common.{◌≡◌, ℕ, ◌+◌, ◌<◌, ◌≤◌, ◌⊎◌, List, [], ◌∷◌, ◌++◌, length, get_or, take, drop, sym, refl, ap, ◌∙◌, subst, inl, inr, arith}
 use Rattle.std.proofs.lemmas.List.{append-nil, take-append-drop, take-take, append_assoc, take_more, take_all}
 use Rattle.std.proofs.lemmas.Bool.{cases_order}
-use Rattle.word.specs.Word.{kind_of}
-use Rattle.word.specs.Form.{Form, Begins, Stands, Open, Refused}
+use Rattle.word.specs.Form.{Form, Begins, Refused}
 use Rattle.word.specs.Form.{Ended, Exact}
 use Rattle.word.specs.declared.fault.WordRefusal.{WordRefusal}
 use Rattle.word.specs.declared.fault.WordRefusal.TheVariants.{Stops, Kind, Range, Follows}

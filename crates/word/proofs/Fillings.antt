@@ -1,17 +1,15 @@
 -- Runs of amounts within a range, and the words of a head, a name and an end.
-use Rattle.std.proofs.Common.{◌≡◌, ℕ, zero, suc, ◌+◌, ◌*◌, ◌/◌, ◌%◌, ◌<◌, ◌⊎◌, List, [], ◌∷◌, ◌++◌, map, length, get_or, ℤ, pos, ◌≤ℤ◌, sym, refl, ap, ◌∙◌, subst, inl, inr, arith}
+use Rattle.std.proofs.Common.{◌≡◌, ℕ, zero, suc, ◌+◌, ◌*◌, ◌<◌, List, [], ◌∷◌, ◌++◌, map, length, get_or, ℤ, pos, ◌≤ℤ◌, sym, refl, ap, ◌∙◌, subst, inl, inr, arith}
 use Rattle.std.specs.List.{AllByRecursion as All}
 use Rattle.std.proofs.lemmas.List.{get_or-append-add, get_or_past}
 use Rattle.std.proofs.lemmas.Bool.{cases_lt}
-use Rattle.word.specs.Word.{kind_number, kind_of, payload_of, amount_of, word_of, amount_word}
+use Rattle.word.specs.Word.{kind_number, amount_of, word_of, amount_word}
 use Rattle.word.specs.Laws.{Short}
 use Rattle.word.specs.Slot.{Fits, Matches}
 use Rattle.word.specs.Run.{in_turn}
 use Rattle.word.specs.Column.{column_value}
-use Rattle.word.specs.declared.kind.Kind.{Kind}
 use Rattle.word.specs.declared.kind.Kind.TheVariants as kind
-use Rattle.word.specs.declared.slot.Slot.{Slot}
-use Rattle.word.specs.declared.slot.Slot.TheVariants.{Head, Bus, Branch, Amount, End}
+use Rattle.word.specs.declared.slot.Slot.TheVariants.{Head, Amount, End}
 use Rattle.word.proofs.Words.{word_at, kind_word, amount_same, amount_back, amount_kind}
 use Rattle.word.proofs.Columns.{value_in, value_out}
 

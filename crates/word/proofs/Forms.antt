@@ -1,6 +1,6 @@
 -- Two forms with the same papers refuse alike.
 use Rattle.std.proofs.Common.{ℕ, List}
-use Rattle.word.specs.Form.{Form, Begins, Stands, Open, Refused}
+use Rattle.word.specs.Form.{Form, Begins, Open, Refused}
 use Rattle.word.specs.declared.fault.WordRefusal.{WordRefusal}
 use Rattle.word.specs.declared.fault.WordRefusal.TheVariants.{Stops, Kind, Range, Follows}
 

@@ -1,9 +1,8 @@
 -- A reader by states: the words that it takes from a state, and what it refuses.
-use Rattle.std.proofs.Common.{◌≡◌, ℕ, suc, ◌+◌, ◌<◌, ◌≤◌, List, [], ◌∷◌, ◌++◌, length, get_or, take, sym, refl, ap, ◌∙◌, subst, arith}
+use Rattle.std.proofs.Common.{◌≡◌, ℕ, ◌<◌, List, [], ◌∷◌, ◌++◌, length, get_or, take, sym, refl, subst, arith}
 use Rattle.std.proofs.lemmas.List.{append-nil, append_assoc, take_more, take_all}
 use Rattle.word.specs.Word.{kind_of}
-use Rattle.word.specs.Form.{Form, Begins, Stands, Open, Refused}
-use Rattle.word.specs.declared.fault.WordRefusal.{WordRefusal}
+use Rattle.word.specs.Form.{Form, Begins, Open, Refused}
 use Rattle.word.specs.declared.fault.WordRefusal.TheVariants.{Stops, Kind, Range, Follows}
 
 module _ (S : Type 0) (Takes : S → ℕ → Type 0) (next : S → ℕ → S) (Final : S → Type 0) where

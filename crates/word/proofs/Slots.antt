@@ -1,8 +1,7 @@
 -- Papers of fixed length: what the slots say of a list of words.
 use Rattle.std.proofs.Common.{◌≡◌, ℕ, zero, suc, ◌+◌, ◌<◌, ◌≤◌, List, [], ◌∷◌, ◌++◌, length, get_or, take, sym, refl, ap, ◌∙◌, subst, arith}
-use Rattle.word.specs.Word.{kind_of}
-use Rattle.word.specs.Form.{Form, Begins, Stands, Open, Refused, Ended}
-use Rattle.word.specs.Slot.{slot_kind, InRange, Fits, Misfits, Matches, Possible}
+use Rattle.word.specs.Form.{Begins, Open, Refused, Ended}
+use Rattle.word.specs.Slot.{Fits, Misfits, Matches, Possible}
 use Rattle.word.specs.declared.slot.Slot.{Slot}
 use Rattle.word.specs.declared.fault.WordRefusal.{WordRefusal}
 use Rattle.word.specs.declared.fault.WordRefusal.TheVariants.{Stops, Kind, Range, Follows}

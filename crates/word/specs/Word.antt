@@ -1,5 +1,5 @@
 -- A paper is a list of 32-bit words: the kind in the top four bits, the payload in the low 28.
-use Rattle.std.specs.Prelude.{ℕ, suc, ◌+◌, ◌-◌, ◌*◌, ◌/◌, ◌%◌, ◌^◌, Bool, cond, List, [], ◌∷◌, ℤ, pos, negsuc, ◌==◌, nat_lt, slice_index}
+use Rattle.std.specs.Prelude.{ℕ, suc, ◌+◌, ◌-◌, ◌*◌, ◌/◌, ◌%◌, ◌^◌, cond, List, [], ◌∷◌, ℤ, pos, negsuc, ◌==◌, nat_lt, slice_index}
 use Rattle.word.specs.declared.kind.Kind.{Kind}
 use Rattle.word.specs.declared.kind.Kind.TheVariants.{Unknown, Head, Bus, Stepped, Curved, Branch, Amount, End}
 

@@ -1,44 +1,41 @@
-use Rattle.std.proofs.Common.{◌≡◌, ℕ, ◌+◌, ◌-◌, ◌<◌, ◌≤◌, List, length, sym, refl, ◌∙◌, subst, arith}
+use Rattle.std.proofs.Common.{◌≡◌, ℕ, ◌+◌, List, length, sym, refl, subst, arith}
 use Rattle.std.proofs.lemmas.Result.{err_from_is_err_and}
-use Rattle.word.specs.declared.fault.WordFault.{WordFault}
-use Rattle.case_paper.specs.CaseFault.{RefusedCase}
-use Rattle.case_paper.specs.declared.fault.RecordFault.TheVariants.{Word}
 use Rattle.case_paper.specs.declared.state.State.{State}
 use Rattle.case_paper.proofs.Progress.{Progress, progress_none, long, refused_early, refused_misstep, refused_stops, closed_long, closed_room, closed_words, refused_closed, progress_closed, progress_same, progress_all, refused_as}
 use Rattle.word.specs.declared.fault.WordRefusal.TheVariants.{Stops, Kind}
 use Rattle.case_paper.specs.State.{open_first}
 use Rattle.case_paper.proofs.case.check_records.Goals as goal
-use Rattle.case_paper.proofs.case.check_records.Goals.{in-Some+in-ok-complete, in-default}
+use Rattle.case_paper.proofs.case.check_records.Goals.{in-Some+in_ok-complete, in_default}
 
 pub loop-place-init : goal.loop-place-init
 loop-place-init c = progress_none c.args.rows.now c.args.words.now
 
-pub end-in-time-requires : goal.end-in-time-requires
-end-in-time-requires c = long c.args.rows.now c.args.words.now c.loop-place.place c.loop-place.state c.loop-place.counts c.loop-place.invariant
+pub end_in_time-requires : goal.end_in_time-requires
+end_in_time-requires c = long c.args.rows.now c.args.words.now c.loop-place.place c.loop-place.state c.loop-place.counts c.loop-place.invariant
 
 pub step-requires : goal.step-requires
 step-requires c = c.loop-place.invariant.got.good
 
-pub returns-in-err-end-in-time : goal.returns-in-err-end-in-time
-returns-in-err-end-in-time c =
-    let p = err_from_is_err_and c.from-residual.result c.from-residual.ensures.1 in
-    let f = c.in-err-end-in-time.ensures in
+pub returns-in_err-end_in_time : goal.returns-in_err-end_in_time
+returns-in_err-end_in_time c =
+    let p = err_from_is_err_and c.from_residual.result c.from_residual.ensures.1 in
+    let f = c.in_err-end_in_time.ensures in
     rw (p.1, p.2)
-    (refused_as c.args.rows.now c.args.words.now c.in-err-end-in-time.field-0.0 Kind c.loop-place.place 0 f.2 f.3 f.4
+    (refused_as c.args.rows.now c.args.words.now c.in_err-end_in_time.field-0.0 Kind c.loop-place.place 0 f.2 f.3 f.4
     (refused_early c.args.rows.now c.args.words.now c.loop-place.place c.loop-place.state c.loop-place.counts c.loop-place.invariant (omega arith) f.0 f.1))
 
-pub returns-in-err-step : goal.returns-in-err-step
-returns-in-err-step c =
-    let p = err_from_is_err_and c.from-residual-in-err-step.result c.from-residual-in-err-step.ensures.1 in
-    let f = c.in-err-step.ensures in
+pub returns-in_err-step : goal.returns-in_err-step
+returns-in_err-step c =
+    let p = err_from_is_err_and c.from_residual-in_err-step.result c.from_residual-in_err-step.ensures.1 in
+    let f = c.in_err-step.ensures in
     rw (p.1, p.2)
-    (refused_as c.args.rows.now c.args.words.now c.in-err-step.field-0.0 c.in-err-step.field-0.0.refusal c.loop-place.place (open_first c.loop-place.state) refl f.2 f.3
-    (refused_misstep c.args.rows.now c.args.words.now c.loop-place.place c.loop-place.state c.loop-place.counts c.loop-place.invariant (omega arith) c.in-ok-end-in-time.ensures c.in-err-step.field-0.0.refusal f.1))
+    (refused_as c.args.rows.now c.args.words.now c.in_err-step.field-0.0 c.in_err-step.field-0.0.refusal c.loop-place.place (open_first c.loop-place.state) refl f.2 f.3
+    (refused_misstep c.args.rows.now c.args.words.now c.loop-place.place c.loop-place.state c.loop-place.counts c.loop-place.invariant (omega arith) c.in_ok-end_in_time.ensures c.in_err-step.field-0.0.refusal f.1))
 
 pub complete-requires : goal.complete-requires
 complete-requires c =
     let d = c.in-Some.ensures in
-    let t = c.in-ok-step.ensures in
+    let t = c.in_ok-step.ensures in
     let v = c.in-Some.closed in (
       omega arith,
       (
@@ -50,38 +47,38 @@ complete-requires c =
       ),
     )
 
-pub returns-in-err-complete : goal.returns-in-err-complete
-returns-in-err-complete c =
+pub returns-in_err-complete : goal.returns-in_err-complete
+returns-in_err-complete c =
     let d = c.in-Some.ensures in
-    let t = c.in-ok-step.ensures in
+    let t = c.in_ok-step.ensures in
     let v = c.in-Some.closed in
-    let p = err_from_is_err_and c.from-residual-in-err-complete.result c.from-residual-in-err-complete.ensures.1 in
-    let f = c.in-err-complete.ensures in
+    let p = err_from_is_err_and c.from_residual-in_err-complete.result c.from_residual-in_err-complete.ensures.1 in
+    let f = c.in_err-complete.ensures in
     rw (p.1, p.2)
     (refused_closed c.args.rows.now c.args.words.now c.loop-place.place c.loop-place.state c.step.new.self c.loop-place.counts c.loop-place.invariant (omega arith) t.0 t.1 v.sort v.first v.read d.0 d.1.0 d.1.1
-    c.in-err-complete.field-0.0 f.0)
+    c.in_err-complete.field-0.0 f.0)
 
 pub loop-place-preserved : goal.loop-place-preserved
 loop-place-preserved c =
-    let t = c.in-ok-step.ensures in
-    elim c.match-closed-by.branch [
-      | in-Some+in-ok-complete w ↦
+    let t = c.in_ok-step.ensures in
+    elim c.match-closed_by.branch [
+      | in-Some+in_ok-complete w ↦
           let d = w.in-Some.ensures in
           let v = w.in-Some.closed in
-          let k = w.in-ok-complete.ensures in
+          let k = w.in_ok-complete.ensures in
           subst (λ (l : List ℕ). Progress c.args.rows.now c.args.words.now (c.loop-place.place + 1) c.step.new.self l) (sym w.counts-is)
           (progress_closed c.args.rows.now c.args.words.now c.loop-place.place c.loop-place.state c.step.new.self c.loop-place.counts c.loop-place.invariant (omega arith) t.0 t.1 v.sort v.first v.read d.0 d.1.0 d.1.1
           w.complete.new.counts k.0 k.1 k.2)
-      | in-default w ↦
+      | in_default w ↦
           subst (λ (l : List ℕ). Progress c.args.rows.now c.args.words.now (c.loop-place.place + 1) c.step.new.self l) (sym w.counts-is)
           (progress_same c.args.rows.now c.args.words.now c.loop-place.place c.loop-place.state c.step.new.self c.loop-place.counts c.loop-place.invariant (omega arith) t.0 t.1
-          c.in-ok-end-in-time.ensures w.in-default.ensures)
+          c.in_ok-end_in_time.ensures w.in_default.ensures)
     ]
 
-pub returns-in-default-state : goal.returns-in-default-state
-returns-in-default-state c =
+pub returns-in_default-state : goal.returns-in_default-state
+returns-in_default-state c =
     let e : c.loop-place.place ≡ length c.args.words.now = omega arith in
-    let f = refused_stops c.args.rows.now c.args.words.now c.loop-place.place c.loop-place.state c.loop-place.counts c.loop-place.invariant e c.in-default-state.not-Done in
+    let f = refused_stops c.args.rows.now c.args.words.now c.loop-place.place c.loop-place.state c.loop-place.counts c.loop-place.invariant e c.in_default-state.not-Done in
     rw c.from.ensures
     (refused_as c.args.rows.now c.args.words.now _ Stops c.loop-place.place (open_first c.loop-place.state) refl (sym e) c.open.ensures f)
 

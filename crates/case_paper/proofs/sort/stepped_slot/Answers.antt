@@ -1,4 +1,4 @@
-use Rattle.std.proofs.Common.{◌≡◌, ◌+◌, ◌-◌, ◌≤◌, replicate, Some, None, arith}
+use Rattle.std.proofs.Common.{◌+◌, ◌-◌, replicate, Some, None, arith}
 use Rattle.case_paper.specs.Case.{power_slot}
 use Rattle.case_paper.specs.Case.{price_slot}
 use Rattle.case_paper.proofs.Layouts.{due_in, due_past, due_last, due_over}

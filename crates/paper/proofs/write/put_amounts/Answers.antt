@@ -1,6 +1,5 @@
-use Rattle.std.proofs.Common.{◌≡◌, ℕ, ◌+◌, List, ◌++◌, map, length, get_or, take, drop, ℤ, pos, sym, refl, ap, ◌∙◌, subst, add-zero, arith, w64, SFits, rules}
+use Rattle.std.proofs.Common.{◌≡◌, length, get_or, take, pos, sym, ap, ◌∙◌, add-zero, arith, w64, SFits, rules}
 use Rattle.std.proofs.lemmas.List.{take_all, take-append-drop}
-use Rattle.std.proofs.ByRecursion.{All-get_or}
 use Rattle.std.proofs.lemmas.Int.{to_z-of_z}
 use Rattle.word.specs.Word.{amount_word}
 use Rattle.paper.proofs.Tables.{write_step}
@@ -13,7 +12,7 @@ pub loop-i-preserved : goal.loop-i-preserved
 loop-i-preserved c =
     let s : SFits w64 (get_or c.args.table.now c.loop-i.i (pos 0)) = search rules in
     write_step amount_word c.args.table.now c.args.list.now c.loop-i.list c.args.from c.loop-i.i (pos 0) 0 _ c.loop-i.invariant
-    (omega arith) (omega arith) (c.amount_written.ensures ∙ ap amount_word (to_z-of_z w64 _ s))
+    (omega arith) (omega arith) (c.amount_word.ensures ∙ ap amount_word (to_z-of_z w64 _ s))
 
 pub returns : goal.returns
 returns c =

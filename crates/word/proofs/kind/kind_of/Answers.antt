@@ -1,4 +1,4 @@
-use Rattle.std.proofs.Common.{◌≡◌, ◌/◌, ◌^◌, sym, ap, arith}
+use Rattle.std.proofs.Common.{◌≡◌, ◌/◌, ◌^◌, ap, arith}
 use Rattle.std.proofs.lemmas.Bool.Decides.{nat_tests}
 use Rattle.word.specs.Word.{kind_of, kind_numbered}
 use Rattle.word.proofs.kind.kind_of.Goals as goal
@@ -31,6 +31,6 @@ pub returns-in-7 : goal.returns-in-7
 unfolding kind_of
 returns-in-7 c = let e : 7 ≡ c.args.word / 2 ^ 28 = omega arith in ap kind_numbered e
 
-pub returns-in-default : goal.returns-in-default
+pub returns-in_default : goal.returns-in_default
 unfolding kind_of
-returns-in-default c = grind (arith, nat_tests)
+returns-in_default c = grind (arith, nat_tests)

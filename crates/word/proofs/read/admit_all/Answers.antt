@@ -1,7 +1,7 @@
-use Rattle.std.proofs.Common.{◌≡◌, ℕ, ◌<◌, ◌≤◌, length, get_or, take, sym, refl, subst, add-one, arith}
+use Rattle.std.proofs.Common.{◌≡◌, length, get_or, take, refl, subst, add-one, arith}
 use Rattle.std.proofs.lemmas.List.{take_all}
 use Rattle.std.proofs.lemmas.Result.{err_from_is_err_and}
-use Rattle.word.specs.Slot.{Matches, Fits, Misfits}
+use Rattle.word.specs.Slot.{Fits, Misfits}
 use Rattle.word.specs.Run.{slots_of}
 use Rattle.word.specs.declared.slot.Slot.{Slot}
 use Rattle.word.specs.declared.slot.Slot.TheVariants.{End}
@@ -11,37 +11,37 @@ use Rattle.word.proofs.read.admit_all.Goals as goal
 pub loop-place-init : goal.loop-place-init
 loop-place-init c = (omega arith, tt)
 
-pub returns-in-default : goal.returns-in-default
-returns-in-default c =
-    let past = c.in-default.ensures in (
+pub returns-in_default : goal.returns-in_default
+returns-in_default c =
+    let past = c.in_default.ensures in (
       refused_follows (slots_of c.args.runs.now) c.args.words.now c.loop-place.place c.requires c.loop-place.invariant.1
           (omega arith) (omega arith),
       refl,
     )
 
-pub returns-in-err-admit : goal.returns-in-err-admit
-returns-in-err-admit c =
-    let p = err_from_is_err_and c.from-residual.result c.from-residual.ensures.1 in
-    let f = c.in-err-admit.ensures in
+pub returns-in_err-admit : goal.returns-in_err-admit
+returns-in_err-admit c =
+    let p = err_from_is_err_and c.from_residual.result c.from_residual.ensures.1 in
+    let f = c.in_err-admit.ensures in
     let due = c.in-Some.ensures in
-    let m = subst (λ (s : Slot). Misfits s (get_or c.args.words.now c.loop-place.place 0) c.in-err-admit.field-0.0.refusal) due.1 f.0 in
+    let m = subst (λ (s : Slot). Misfits s (get_or c.args.words.now c.loop-place.place 0) c.in_err-admit.field-0.0.refusal) due.1 f.0 in
     let g = refused_misfit (slots_of c.args.runs.now) c.args.words.now c.loop-place.place c.requires c.loop-place.invariant.1
-    End (omega arith) due.0 c.in-err-admit.field-0.0.refusal m in
+    End (omega arith) due.0 c.in_err-admit.field-0.0.refusal m in
     rw (p.1, p.2) (rw f.1 g, f.2)
 
 pub loop-place-preserved : goal.loop-place-preserved
 loop-place-preserved c =
     let due = c.in-Some.ensures in
-    let f = subst (λ (s : Slot). Fits s (get_or c.args.words.now c.loop-place.place 0)) due.1 c.in-ok-admit.ensures in (
+    let f = subst (λ (s : Slot). Fits s (get_or c.args.words.now c.loop-place.place 0)) due.1 c.in_ok-admit.ensures in (
       omega arith,
       rw add-one
           (matches_more (slots_of c.args.runs.now) c.args.words.now c.loop-place.place End 0 c.loop-place.invariant.1
           due.0 (omega arith) f),
     )
 
-pub returns-in-Some-slot-at : goal.returns-in-Some-slot-at
-returns-in-Some-slot-at c =
-    let due = c.in-Some-slot-at.ensures in
+pub returns-in-Some-slot_at : goal.returns-in-Some-slot_at
+returns-in-Some-slot_at c =
+    let due = c.in-Some-slot_at.ensures in
     let e : c.loop-place.place ≡ length c.args.words.now = omega arith in (
       rw e at (refused_stops (slots_of c.args.runs.now) c.args.words.now c.loop-place.place c.requires c.loop-place.invariant.1
           (omega arith) (omega arith)),
@@ -50,7 +50,7 @@ returns-in-Some-slot-at c =
 
 pub returns : goal.returns
 returns c =
-    let past = c.in-default-slot-at.ensures in
+    let past = c.in_default-slot_at.ensures in
     let s : take c.loop-place.place (slots_of c.args.runs.now) ≡ slots_of c.args.runs.now = take_all _ _ (omega arith) in
     let w : take c.loop-place.place c.args.words.now ≡ c.args.words.now = take_all _ _ (omega arith) in
     rw (s, w) at c.loop-place.invariant.1

@@ -1,12 +1,11 @@
 -- The dispatches of the small harbour.
-use Rattle.std.proofs.Common.{◌≡◌, ℕ, zero, suc, ◌<◌, Bool, true, false, T, List, [], ◌∷◌, ℤ, pos, negsuc, ◌*ℤ◌, neg_ℤ, ◌≤ℤ◌, Err, refl, ap, ◌∙◌, arith}
+use Rattle.std.proofs.Common.{◌≡◌, ℕ, ◌<◌, true, T, ℤ, pos, negsuc, ◌*ℤ◌, Err, refl, ap, ◌∙◌, arith}
 use lib.Signed.{le_z}
-use Rattle.measure.specs.Range.{Within}
-use Rattle.measure.specs.Fraction.{Fraction, whole, Same, ◌≤ᶠ◌, ◌+ᶠ◌, ◌-ᶠ◌, ◌·ᶠ◌, Between}
-use Rattle.measure.specs.Rows.{Row, numbered, rows, total, totalᶠ, All}
+use Rattle.measure.specs.Fraction.{Fraction, ◌+ᶠ◌, ◌-ᶠ◌, ◌·ᶠ◌, Between}
+use Rattle.measure.specs.Rows.{numbered, total, totalᶠ, All}
 use Rattle.stepped.specs.Piecewise.{stepped_meaning}
 use Rattle.curved.specs.Quadratic.{curved_meaning}
-use Rattle.network.specs.Model.{Case, WholeDispatch, in_fractions, angle, flow, leaving, arriving, injection, mismatch, Meets, counted}
+use Rattle.network.specs.Model.{WholeDispatch, in_fractions, angle, flow, leaving, arriving, injection, mismatch, Meets, counted}
 use Rattle.measure.proofs.Sums.{holds_below}
 use Rattle.network.specs.declared.refusal.Refusal.{Refusal}
 use Rattle.network.specs.declared.refusal.Refusal.TheVariants.{OutOfRange, Crossed, Size, Repeated, UnknownBus, NotInCase, NotAllowed, Unbalanced, Overloaded, Overstretched, Unrated, Weight, Residue}
@@ -14,7 +13,7 @@ use Rattle.network.specs.Refusals.{number_of}
 use Rattle.network.specs.Judged.{AnglesKept, PowersAllowed, Balanced, RatingsKept, Refused, Judged}
 use Rattle.network.proofs.Pinned.{judged_overloaded}
 use Rattle.small_harbour.specs.Example.{Answer}
-use Rattle.small_harbour.specs.Harbour.{stepped, curved, harbour, dispatch}
+use Rattle.small_harbour.specs.Harbour.{harbour, dispatch}
 
 -- a fraction between two whole numbers, by computing both comparisons
 inside : {a b : ℤ} {x : Fraction} → T (le_z (a *ℤ pos x.den) (x.num *ℤ pos 1)) → T (le_z (x.num *ℤ pos 1) (b *ℤ pos x.den)) → Between a b x

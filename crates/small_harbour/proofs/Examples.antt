@@ -1,20 +1,18 @@
 -- The small harbour, all together.
-use Rattle.std.proofs.Common.{◌≡◌, ℕ, zero, suc, true, false, ℤ, pos, Ok, Err, refl, ap, ◌∙◌, subst, inl, inr, arith}
+use Rattle.std.proofs.Common.{◌≡◌, ℕ, true, false, ℤ, pos, Ok, Err, refl, ap, ◌∙◌, subst, inl, inr, arith}
 use Rattle.measure.specs.Rows.{Stands}
 use Rattle.measure.proofs.Sums.{holds_below}
 use Rattle.pricing.specs.Outage.{with_mark, without, NamedRow, FlooredWithout}
 use Rattle.stepped.specs.Piecewise.{stepped_meaning}
 use Rattle.curved.specs.Quadratic.{curved_meaning}
-use Rattle.network.specs.declared.refusal.Refusal.{Refusal}
-use Rattle.network.specs.declared.refusal.Refusal.TheVariants.{OutOfRange, Crossed, Size, Repeated, UnknownBus, NotInCase, NotAllowed, Unbalanced, Overloaded, Overstretched, Unrated, Weight, Residue}
 use Rattle.network.specs.Floor.{Prices, LawfulList, floor}
 use Rattle.network.specs.Floored.{Floored}
 use Rattle.network.specs.Model.{Case}
-use Rattle.network.proofs.Pinned.{judged_taken, judged_unbalanced, judged_overloaded}
+use Rattle.network.proofs.Pinned.{judged_taken, judged_unbalanced}
 use Rattle.stepped.specs.declared.stepped.Stepped.{Stepped}
 use Rattle.curved.specs.declared.curved.Curved.{Curved}
-use Rattle.small_harbour.specs.Harbour.{line_name, line, harbour, dispatch, prices}
-use Rattle.small_harbour.specs.Example.{Answer, grains, Example, RefusedBy}
+use Rattle.small_harbour.specs.Harbour.{line_name, line, harbour, prices}
+use Rattle.small_harbour.specs.Example.{Answer, grains, Example}
 use Rattle.small_harbour.proofs.Dispatches as dispatches
 use Rattle.small_harbour.proofs.Floors as floors
 

@@ -1,5 +1,5 @@
 -- The price lists of the small harbour.
-use Rattle.std.proofs.Common.{◌≡◌, ℕ, zero, suc, ◌<◌, true, false, ℤ, pos, negsuc, ◌≤ℤ◌, refl}
+use Rattle.std.proofs.Common.{◌≡◌, ℕ, zero, suc, ◌<◌, true, false, ℤ, pos, negsuc, refl}
 use Rattle.measure.specs.Range.{Within}
 use Rattle.measure.specs.Rows.{numbered, total, All}
 use Rattle.stepped.specs.Piecewise.{stepped_meaning}

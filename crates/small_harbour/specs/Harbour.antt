@@ -1,14 +1,12 @@
 -- The small harbour: two buses, a stepped machine at the first, a curved one at the second, and one branch between them.
-use Rattle.std.specs.Prelude.{ℕ, zero, suc, Bool, true, List, [], ◌∷◌, ℤ, pos, negsuc, ◌≤ℤ◌}
+use Rattle.std.specs.Prelude.{ℕ, zero, suc, Bool, [], ◌∷◌, ℤ, pos, negsuc}
 use Rattle.std.proofs.Common.{lit≤}
-use Rattle.measure.specs.declared.Watts.{Watts}
-use Rattle.measure.specs.declared.Microradians.{Microradians}
 use Rattle.stepped.specs.declared.stepped.Stepped.{Stepped}
 use Rattle.curved.specs.declared.curved.Curved.{Curved}
 use Rattle.names.specs.declared.branch.BranchName.{BranchName}
 use Rattle.network.specs.declared.bus.Bus.{Bus}
 use Rattle.network.specs.declared.branch.Branch.{Branch}
-use Rattle.network.specs.Model.{Group, Case, WholeDispatch}
+use Rattle.network.specs.Model.{Case, WholeDispatch}
 use Rattle.network.specs.Floor.{Prices}
 
 abbrev pub stepped : Stepped

@@ -8,6 +8,7 @@ use measure::{Microradians, Watts};
 use network::case::Case;
 use network::dispatch::Dispatch;
 use std::process::Abort;
+use std::test::Fail;
 use stepped::stepped::Stepped;
 
 // The power of each machine, the angle of the second bus, and what judging them answers.

@@ -8,6 +8,7 @@ use network::case::Case;
 use network::prices::Prices;
 use pricing::floor::floor;
 use std::process::Abort;
+use std::test::Fail;
 use stepped::stepped::Stepped;
 
 // The greatest and the least price.

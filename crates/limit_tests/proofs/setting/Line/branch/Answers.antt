@@ -1,5 +1,12 @@
 use Rattle.std.proofs.Common.{rules}
 use Rattle.limit_tests.proofs.setting.Line.branch.Goals as goal
 
-pub invariant-of-result : goal.invariant-of-result
-invariant-of-result c = (search rules, (search rules, (search rules, (search rules, search rules))))
+pub invariant_of-result : goal.invariant_of-result
+invariant_of-result c =
+    record {
+      named = search rules;
+      susceptible = search rules;
+      shifted = search rules;
+      rated = search rules;
+      limited = search rules;
+    }

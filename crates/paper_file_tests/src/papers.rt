@@ -29,7 +29,7 @@ fn three_papers(rt: HostRuntime) {
     assert_eq!(rt; second, 1);
     assert!(rt; second <= rest.len());
     let last = &rest[second..];
-    assert_eq!(rt; last, &[0x1000_0003, A]);
+    assert_eq!(rt; last, [0x1000_0003, A].as_slice());
     assert_eq!(rt; paper_len(last), 2);
 }
 

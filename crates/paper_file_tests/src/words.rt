@@ -5,7 +5,7 @@ use std::test::Fail;
 #[test]
 fn highest_byte_first(rt: HostRuntime) -> Result<(), Fail> {
     let words = words_of(rt.alloc(), &[0x10, 0, 0, 2, 0x6f, 0xff, 0xff, 0xc4])?;
-    assert_eq!(rt; words.as_slice(), &[0x1000_0002, 0x6fff_ffc4]);
+    assert_eq!(rt; words.as_slice(), [0x1000_0002, 0x6fff_ffc4].as_slice());
     Ok(())
 }
 
@@ -16,7 +16,7 @@ fn bytes_over(rt: HostRuntime) -> Result<(), Fail> {
     let short = words_of(rt.alloc(), &[0x70, 0, 0])?;
     assert_eq!(rt; short.len(), 0);
     let over = words_of(rt.alloc(), &[0x70, 0, 0, 9, 0x70, 0, 0])?;
-    assert_eq!(rt; over.as_slice(), &[0x7000_0009]);
+    assert_eq!(rt; over.as_slice(), [0x7000_0009].as_slice());
     Ok(())
 }
 

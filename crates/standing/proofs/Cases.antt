@@ -4,7 +4,6 @@ use Rattle.std.proofs.lemmas.Bool.{cond-false}
 use Rattle.standing.specs.Model.{Model, Meets}
 use Rattle.standing.specs.Call.{Call, History}
 use Rattle.standing.specs.Call.Call.{man, offer, change, ask, hand_over, stand_down}
-use Rattle.standing.specs.Call.Offer.{dispatch}
 use Rattle.standing.specs.Panel.{Priced}
 use Rattle.standing.specs.Told.{full_at, case_at, IsChange, MeetingSince, FloorSince}
 use Rattle.standing.specs.Told.OffersMeeting.{meeting}

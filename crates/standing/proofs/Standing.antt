@@ -6,7 +6,6 @@ use Rattle.measure.proofs.Order.{cancel, ≤_trans}
 use Rattle.standing.specs.Model.{Model, Grounds}
 use Rattle.standing.specs.Call.{Call, Offer, History}
 use Rattle.standing.specs.Call.Call.{man, offer, change, ask, hand_over, stand_down}
-use Rattle.standing.specs.Call.Offer.{dispatch}
 use Rattle.standing.specs.Panel.{Heading, Watch, Sheet, Priced, State, none_yet, total, is_full, with_watch, counting, sheet_of, open_sheet}
 use Rattle.standing.specs.Step.{Offered, ChangeMade, Step, sheets_of}
 use Rattle.standing.specs.Step.Step.{manned, offer-counted, change-counted, offer_too_many, change-too-many, asked, handed_over, hand_over_refused, stood_down}

@@ -4,14 +4,14 @@ use Rattle.paper_file.specs.Laws.{NoEnd}
 use Rattle.paper_file.proofs.Cuts.{no_end_more, first_ended, first-unended}
 use Rattle.paper_file.proofs.papers.paper_len.Goals as goal
 
-pub returns-then-ends-paper : goal.returns-then-ends-paper
-returns-then-ends-paper c = let h : c.loop-i.i < length c.args.words.now = omega arith in
-    first_ended c.args.words.now c.loop-i.i h c.loop-i.invariant (sym c.if-ends-paper.ensures)
+pub returns-then-ends_paper : goal.returns-then-ends_paper
+returns-then-ends_paper c = let h : c.loop-i.i < length c.args.words.now = omega arith in
+    first_ended c.args.words.now c.loop-i.i h c.loop-i.invariant (sym c.if-ends_paper.ensures)
 
 pub loop-i-preserved : goal.loop-i-preserved
 loop-i-preserved c =
     let h : c.loop-i.i < length c.args.words.now = omega arith in
-    subst NoEnd (sym (take_more c.args.words.now c.loop-i.i 0 h)) (no_end_more _ _ c.loop-i.invariant (sym c.if-ends-paper.ensures))
+    subst NoEnd (sym (take_more c.args.words.now c.loop-i.i 0 h)) (no_end_more _ _ c.loop-i.invariant (sym c.if-ends_paper.ensures))
 
 pub returns : goal.returns
 returns c = first-unended c.args.words.now (subst NoEnd (take_all c.loop-i.i c.args.words.now (omega arith)) c.loop-i.invariant)

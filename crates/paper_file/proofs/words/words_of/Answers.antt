@@ -10,6 +10,6 @@ loop-four-preserved c = search (rules, map_more of_bytes)
 
 pub returns : goal.returns
 returns c =
-    let fours = c.as-chunks.result.0.now in
-    c.loop-four.invariant ∙ ap (map of_bytes) (take_all c.loop-four.four-index fours (omega arith) ∙ c.as-chunks.ensures.front)
+    let fours = c.as_chunks.result.0.now in
+    c.loop-four.invariant ∙ ap (map of_bytes) (take_all c.loop-four.four-index fours (omega arith) ∙ c.as_chunks.ensures.front)
     ∙ words_of_fours _ ∙ ap words_in (take_at_most c.min.result 65536 c.args.bytes.now c.min.ensures)

@@ -10,7 +10,7 @@ pub returns : goal.returns
 returns c =
     let f = shown c.args.figure in
     record {
-      text = c.push-2.ensures.text ∙ ap (λ u. u ++ (10 ∷ [])) (c.push-figure.ensures.text ∙ ap (λ u. u ++ f) (c.push.ensures.text ∙ ap (λ u. u ++ (32 ∷ [])) c.push-all.ensures.text))
+      text = c.push-2.ensures.text ∙ ap (λ u. u ++ (10 ∷ [])) (c.push_figure.ensures.text ∙ ap (λ u. u ++ f) (c.push.ensures.text ∙ ap (λ u. u ++ (32 ∷ [])) c.push_all.ensures.text))
           ∙ simp append_assoc;
       len = omega (arith, shown-short c.args.figure c.requires.0);
     }

@@ -1,6 +1,5 @@
 -- A case that can be read is not refused, and what is refused is so by one fault.
 use Rattle.std.proofs.Common.{◌≡◌, ℕ, List, Some, sym, ap, ◌∙◌, subst, inl, inr}
-use denote.Ref.{at_last}
 use Rattle.std.proofs.lemmas.Bool.{cases_order}
 use Rattle.measure.specs.Rows.{Lowest}
 use Rattle.stepped.specs.Piecewise.{stepped_meaning}
@@ -13,7 +12,7 @@ use Rattle.build.specs.declared.tables.Rows.{Rows}
 use Rattle.build.specs.declared.tables.Room.{Room}
 use Rattle.build.specs.Offer.{BusRepeated, BranchRepeated, Unknown, Accepted, Refused}
 use Rattle.build.specs.Build.{room_of}
-use Rattle.case_paper.specs.Case.{Record, CaseForm}
+use Rattle.case_paper.specs.Case.{CaseForm}
 use Rattle.case_paper.specs.CaseFault.{LawfulCase}
 use Rattle.case_paper.specs.declared.fault.CaseFault.{CaseFault}
 use Rattle.case_paper.specs.declared.fault.CaseFault.TheVariants as fault
@@ -37,10 +36,10 @@ module _ (o p : Rows Stepped Curved) where
   moved =
       record {
         tolerance = p.tolerance;
-        buses = at_last p.buses o.buses.now;
-        first = at_last p.first o.first.now;
-        second = at_last p.second o.second.now;
-        branches = at_last p.branches o.branches.now;
+        buses = record p.buses { now = o.buses.now };
+        first = record p.first { now = o.first.now };
+        second = record p.second { now = o.second.now };
+        branches = record p.branches { now = o.branches.now };
       }
 
 module _ (w : List ℕ) (c d : CaseForm w) (o p : Rows Stepped Curved) (f : Offered c o) (g : Offered d p) where
@@ -53,10 +52,10 @@ module _ (w : List ℕ) (c d : CaseForm w) (o p : Rows Stepped Curved) (f : Offe
       let r = g.branches ∙ ap branch_rows e ∙ sym f.branches in
       λ i. record {
         tolerance = p.tolerance;
-        buses = at_last p.buses (b i);
-        first = at_last p.first (m i);
-        second = at_last p.second (n i);
-        branches = at_last p.branches (r i);
+        buses = record p.buses { now = b i };
+        first = record p.first { now = m i };
+        second = record p.second { now = n i };
+        branches = record p.branches { now = r i };
       }
 
   refused_same : (room : Room) (e : Refusal) → Refused stepped_meaning curved_meaning p room e → Refused stepped_meaning curved_meaning (moved o p) room e

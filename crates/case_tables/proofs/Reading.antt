@@ -54,7 +54,7 @@ module _ (w : List ℕ) (t : Tables) (l : LawfulCase (rows_provided t) w) where
   counted_case = record { form = l.form; met = l.met }
 
   -- the tolerance is the head's second word
-  pub tolerance_word : amount_of (get_or w 1 0) ≡ tolerance_of l.form.head
+  pub tolerance_word : amount_of (get_or w 1 0) ≡ tolerance_of l.form
   tolerance_word =
       let n = matches_length head_slots l.form.head l.form.headed in
       ap (λ (v : List ℕ). amount_of (get_or v 1 0)) l.form.words

@@ -44,7 +44,7 @@ laid_in t = lent t.buses t.first t.second t.branches
 
 -- the case is offered: its tolerance, and the rows of its records in their order
 abbrev pub Offered : {w : List ℕ} → CaseForm w → Rows Stepped Curved → Type 0
-Offered c o = Offers (tolerance_of c.head) c.records o
+Offered c o = Offers (tolerance_of c) c.records o
 
 -- the table's first rows are xs, and the later ones are as before
 abbrev pub Written : {X : Type 0} → List X → List X → List X → Type 0
@@ -67,7 +67,7 @@ pub record CaseRead (w : List ℕ) (before after : Tables) (v : ReadCase) : Type
   pub offer : Rows Stepped Curved
   pub offered : Offered lawful.form offer
   pub laid : Laid stepped_meaning curved_meaning offer (laid_in before) (laid_in after) v.counts
-  pub tolerance : pos v.tolerance ≡ tolerance_of lawful.form.head
+  pub tolerance : pos v.tolerance ≡ tolerance_of lawful.form
   pub stepped : Written (stepped_rows lawful.form.records) before.stepped after.stepped
   pub curved : Written (curved_rows lawful.form.records) before.curved after.curved
   pub formed : WellFormed stepped_meaning curved_meaning (held_case v after)

@@ -14,7 +14,7 @@ loop-i-preserved g c =
     let z : ℤ = amount_of (get_or words i 0) in
     let before = map amount_of (take i words) in
     let long : length before ≡ i = length-map (take i words) amount_of ∙ length-take-le i words i-in in
-    let is = to_z-of_z w64 c.amount.result (record { sfits = c.amount.type-inv }) ∙ c.amount.ensures in
+    let is = to_z-of_z w64 c.amount.result (record { sfits = c.amount.type_inv }) ∙ c.amount.ensures in
     ap (set c.loop-i.amounts i) is
     ∙ ap (λ xs. set xs i z) c.loop-i.invariant
     ∙ ap (λ k. set (padded g.row.N before) k z) (sym long)

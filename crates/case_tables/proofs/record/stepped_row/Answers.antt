@@ -11,15 +11,15 @@ returns c =
     let amounts = c.args.amounts.now in
     let said : n ≡ payload_of c.args.first / 256 = sym c.requires.said in
     let bus = ap (λ (p : ℕ). p % 256) c.payload.ensures in
-    let lo = to_z-of_z w64 c.amount.result (record { sfits = c.amount.type-inv }) ∙ c.amount.ensures in
-    let hi = to_z-of_z w64 c.amount-2.result (record { sfits = c.amount-2.type-inv }) ∙ c.amount-2.ensures in
-    let cost = to_z-of_z w64 c.amount-3.result (record { sfits = c.amount-3.type-inv }) ∙ c.amount-3.ensures in
+    let lo = to_z-of_z w64 c.amount.result (record { sfits = c.amount.type_inv }) ∙ c.amount.ensures in
+    let hi = to_z-of_z w64 c.amount-2.result (record { sfits = c.amount-2.type_inv }) ∙ c.amount-2.ensures in
+    let cost = to_z-of_z w64 c.amount-3.result (record { sfits = c.amount-3.type_inv }) ∙ c.amount-3.ensures in
     let few : 3 + n - 3 ≡ n = omega arith in
     let points =
-    c.amounts-in.ensures
+    c.amounts_in.ensures
     ∙ ap (λ (k : ℕ). padded 8 (map amount_of (take k (drop 3 amounts)))) (few ∙ said) in
     let slopes =
-    c.amounts-in-2.ensures
+    c.amounts_in-2.ensures
     ∙ ap (λ (xs : List ℕ). padded 7 (map amount_of xs)) (take_rest amounts (3 + n))
     ∙ ap (λ (k : ℕ). padded 7 (map amount_of (drop (3 + k) amounts))) said in
     λ i. record {

@@ -6,8 +6,8 @@ use Rattle.case_tables.proofs.Keeping.{stepped-long}
 use Rattle.case_tables.proofs.Kept.{keeps_bus, keeps_stepped, keeps_curved, keeps_branch}
 use Rattle.case_tables.proofs.rows.CaseRows.push.Goals as goal
 
-pub stepped-row-requires : goal.stepped-row-requires
-stepped-row-requires c =
+pub stepped_row-requires : goal.stepped_row-requires
+stepped_row-requires c =
     let n = c.in-Stepped.n in
     let f = subst (λ (q : Sort). Formed (record_of q c.args.first c.args.amounts.now)) c.in-Stepped.is c.requires.formed in
     record {
@@ -34,4 +34,4 @@ returns-in-Curved c rs h =
 pub returns-in-Branch : goal.returns-in-Branch
 returns-in-Branch c rs h =
     keeps_branch c.args.self.now rs h c.args.sort c.args.first c.args.amounts.now c.in-Branch.is
-    c.branch-row.result c.branch-row.ensures c.push-in-Branch.new.self c.push-in-Branch.ensures
+    c.branch_row.result c.branch_row.ensures c.push-in-Branch.new.self c.push-in-Branch.ensures

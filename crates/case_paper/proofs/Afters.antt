@@ -1,6 +1,6 @@
 -- Where the reader is after words of a known shape; so those shapes exclude one another, and each is unique.
 use Rattle.std.proofs.Common.{◌≡◌, ℕ, suc, ◌+◌, ◌-◌, ◌<◌, List, [], ◌∷◌, ◌++◌, length, take, drop, sym, refl, ap, ◌∙◌, inl, inr, arith}
-use Rattle.std.specs.List.{flat_map, AllByRecursion as All}
+use Rattle.std.specs.List.{flat_map, AllByRecursion}
 use Rattle.std.proofs.lemmas.List.{append_assoc, append-nil, length-append, length-take-le, take_at, drop_at, take-take, flat_map_more, take_all, take-append-drop, same_from_push}
 use Rattle.std.proofs.ByRecursion.{All-push}
 use Rattle.std.proofs.lemmas.Bool.{cases_lt}
@@ -62,7 +62,7 @@ run-record a r f =
     ap (λ (s : State). run s r.amounts) (opened a r.sort r.first f.0)
     ∙ run-amounts r.sort r.first r.amounts f.0 (matches_length (amounts_of r.sort) r.amounts f.1)
 
-run-records : (a : Place) (rs : List Record) → All Formed rs → (b : Place) × (run (Next a) (flat_map record_words rs) ≡ Next b)
+run-records : (a : Place) (rs : List Record) → AllByRecursion Formed rs → (b : Place) × (run (Next a) (flat_map record_words rs) ≡ Next b)
 run-records a [] f = (a, refl)
 run-records a (r ∷ rs) f =
     let t = run-records (after_sort r.sort) rs f.1 in
@@ -123,10 +123,10 @@ pub record GoesOn (rs ts : List Record) (v : List ℕ) : Type 0 where
   pub more : List Record
   pub same : ts ≡ rs ++ more
   pub rest : flat_map record_words more ++ end_word ≡ v
-  pub formed : All Formed more
+  pub formed : AllByRecursion Formed more
 
 -- whole records at the front of a case's are the first of its records
-pub records_prefix : (rs ts : List Record) → All Formed rs → All Formed ts → (v : List ℕ) → flat_map record_words ts ++ end_word ≡ flat_map record_words rs ++ v → GoesOn rs ts v
+pub records_prefix : (rs ts : List Record) → AllByRecursion Formed rs → AllByRecursion Formed ts → (v : List ℕ) → flat_map record_words ts ++ end_word ≡ flat_map record_words rs ++ v → GoesOn rs ts v
 unfolding made
 records_prefix [] ts f g v e = record { more = ts; same = refl; rest = e; formed = g }
 records_prefix (r ∷ rs) [] f g v e =
@@ -147,7 +147,7 @@ records_prefix (r ∷ rs) (t ∷ ts) f g v e =
     let same : made t.sort t.first t.amounts ≡ made r.sort r.first r.amounts = λ i. made (q i) (d.0 i) (x i) in
     record { more = z.more; same = λ i. same i ∷ z.same i; rest = z.rest; formed = z.formed }
 
-records_same : (rs ts : List Record) → All Formed rs → All Formed ts → flat_map record_words rs ≡ flat_map record_words ts → rs ≡ ts
+records_same : (rs ts : List Record) → AllByRecursion Formed rs → AllByRecursion Formed ts → flat_map record_words rs ≡ flat_map record_words ts → rs ≡ ts
 records_same rs ts f g e =
     let a = records_prefix ts rs g f end_word (ap (λ (l : List ℕ). l ++ end_word) e) in
     let b = records_prefix rs ts f g end_word (ap (λ (l : List ℕ). l ++ end_word) (sym e)) in

@@ -1,6 +1,6 @@
 -- The reader of a case takes exactly the words of a case.
 use Rattle.std.proofs.Common.{◌≡◌, ℕ, zero, suc, ◌+◌, ◌-◌, ◌<◌, ◌≤◌, true, false, List, [], ◌∷◌, ◌++◌, length, get_or, drop, replicate, pos, negsuc, sym, refl, ap, ◌∙◌, subst, inl, inr, arith, rules}
-use Rattle.std.specs.List.{flat_map, AllByRecursion as All}
+use Rattle.std.specs.List.{flat_map, AllByRecursion}
 use Rattle.std.proofs.lemmas.List.{append_assoc, drop_more, drop_all}
 use Rattle.std.proofs.ByRecursion.{All-append, All-get_or}
 use Rattle.std.proofs.lemmas.Bool.{cases_lt, both_ways}
@@ -111,7 +111,7 @@ rank-after Branch = refl
 record RestN (p : Place) (w : List ℕ) : Type 0 where
   records : List Record
   words : w ≡ flat_map record_words records ++ end_word
-  formed : All Formed records
+  formed : AllByRecursion Formed records
   sorted : Sorted (least_rank p) records
 
 record RestC (read : ℕ) (w : List ℕ) : Type 0 where
@@ -139,11 +139,11 @@ Rest Done w = w ≡ []
 abbrev AnAmount : Slot → Type 0
 AnAmount z = slot_kind z ≡ kind.Amount
 
-amount_slot : (n : ℕ) (s : Slot) → AnAmount s → All AnAmount (replicate n s)
+amount_slot : (n : ℕ) (s : Slot) → AnAmount s → AllByRecursion AnAmount (replicate n s)
 amount_slot zero s e = tt
 amount_slot (suc n) s e = (e, amount_slot n s e)
 
-all_amounts : (q : Sort) → All AnAmount (amounts_of q)
+all_amounts : (q : Sort) → AllByRecursion AnAmount (amounts_of q)
 all_amounts Bus = (refl, tt)
 all_amounts (Stepped n) = All-append AnAmount (replicate (3 + n) power_slot) (replicate (n - 1) price_slot) (amount_slot (3 + n) power_slot refl) (amount_slot (n - 1) price_slot refl)
 all_amounts Curved = (refl, (refl, (refl, (refl, (refl, tt)))))
@@ -195,7 +195,7 @@ nothing_left ss read (x ∷ u) h m = absurd (subst (λ (ts : List Slot). Matches
 pub ∷-parts : {x y : ℕ} {v w : List ℕ} → (x ∷ v) ≡ (y ∷ w) → (x ≡ y) × (v ≡ w)
 ∷-parts {x} {y} {v} {w} e = let a : x ≡ y = cc in let b : v ≡ w = cc in (a, b)
 
-next-forth : (p : Place) (x : ℕ) (w : List ℕ) (rs : List Record) → AtRecord p → (x ∷ w) ≡ flat_map record_words rs ++ end_word → All Formed rs → Sorted (least_rank p) rs → Takes (Next p) x × Rest (next (Next p) x) w
+next-forth : (p : Place) (x : ℕ) (w : List ℕ) (rs : List Record) → AtRecord p → (x ∷ w) ≡ flat_map record_words rs ++ end_word → AllByRecursion Formed rs → Sorted (least_rank p) rs → Takes (Next p) x × Rest (next (Next p) x) w
 next-forth p x w [] a e f b =
     let d = ∷-parts e in
     let k : kind_of x ≡ kind.End = ap kind_of d.0 ∙ kind_word kind.End 0 (omega arith) in
@@ -392,7 +392,7 @@ Live s = (w : List ℕ) × Accepts s w
 abbrev Sample : Slot → Type 0
 Sample z = (x : ℕ) × Fits z x
 
-samples_run : (n : ℕ) (z : Slot) → Sample z → All Sample (replicate n z)
+samples_run : (n : ℕ) (z : Slot) → Sample z → AllByRecursion Sample (replicate n z)
 samples_run zero z x = tt
 samples_run (suc n) z x = (x, samples_run n z x)
 
@@ -411,14 +411,14 @@ zero_sample most = (amount_word (pos 0), amount_fits (pos 0) (pos most) (pos 0) 
 sized_sample : (size : ℕ) → Sample (slot.Amount (negsuc size) (pos (suc size)))
 sized_sample size = (amount_word (pos 0), amount_fits (negsuc size) (pos (suc size)) (pos 0) (omega (arith, ints), omega (arith, ints)) (omega (arith, ints), omega (arith, ints)))
 
-samples : (q : Sort) → All Sample (amounts_of q)
+samples : (q : Sort) → AllByRecursion Sample (amounts_of q)
 samples Bus = (power_sample, tt)
 samples (Stepped n) = All-append Sample (replicate (3 + n) power_slot) (replicate (n - 1) price_slot) (samples_run (3 + n) power_slot power_sample) (samples_run (n - 1) price_slot price-sample)
 samples Curved = (power_sample, (power_sample, (power_sample, (price-sample, (one-sample 500 (omega arith), tt)))))
 samples Branch =
     (one-sample 1000000 (omega arith), (sized_sample 1599999, (zero_sample 100000000, (sized_sample 6399999, (sized_sample 6399999, (zero_sample 1, tt))))))
 
-head_samples : All Sample head_amounts
+head_samples : AllByRecursion Sample head_amounts
 head_samples = (zero_sample 100000, (one-sample 100 (omega arith), (zero_sample 30, (zero_sample 30, (zero_sample 200, tt)))))
 
 live_next : (p : Place) → AtRecord p → Live (Next p)

@@ -1,6 +1,6 @@
 -- A lawful case is not refused, and what is refused is so by one fault.
 use Rattle.std.proofs.Common.{◌≡◌, ℕ, ◌+◌, ◌<◌, cond, eqb, List, [], ◌∷◌, ◌++◌, length, get_or, take, drop, sym, refl, ap, ◌∙◌, subst, inl, inr, arith}
-use Rattle.std.specs.List.{flat_map, AllByRecursion as All}
+use Rattle.std.specs.List.{flat_map, AllByRecursion}
 use Rattle.std.proofs.lemmas.List.{append_assoc, append-nil, take-append-drop, drop_more}
 use Rattle.std.proofs.lemmas.Bool.{cases_order, eq-eqb, cond-true}
 use Rattle.word.specs.Fault.{refusal_number}
@@ -109,12 +109,12 @@ rank-small (Stepped n) = omega arith
 rank-small Curved = omega arith
 rank-small Branch = omega arith
 
-middle : (rs more : List Record) (r : Record) → All (λ t. InOrder t.sort t.amounts) ((rs ++ (r ∷ [])) ++ more) → InOrder r.sort r.amounts
+middle : (rs more : List Record) (r : Record) → AllByRecursion (λ t. InOrder t.sort t.amounts) ((rs ++ (r ∷ [])) ++ more) → InOrder r.sort r.amounts
 middle [] more r a = a.0
 middle (t ∷ rs) more r a = middle rs more r a.1
 
 -- no record begins with an end word
-pub no_more : (more : List Record) (x : ℕ) (v : List ℕ) → All Formed more → flat_map record_words more ++ end_word ≡ x ∷ v → kind_of x ≡ kind.End → more ≡ []
+pub no_more : (more : List Record) (x : ℕ) (v : List ℕ) → AllByRecursion Formed more → flat_map record_words more ++ end_word ≡ x ∷ v → kind_of x ≡ kind.End → more ≡ []
 no_more [] x v f q e = refl
 no_more (t ∷ ts) x v f q e = absurd (first-no_end t.sort t.first f.0.0 (ap kind_of (∷-parts q).0 ∙ e))
 
@@ -142,7 +142,7 @@ lawful_quiet rows w a k (Word f) (e, o, inr (q, x)) =
     x.unmet (subst (λ (h : List ℕ). CountsMet h x.records) s.0 (subst (λ (rs : List Record). CountsMet a.form.head rs) m a.met))
 lawful_quiet rows w a k (Order p x) (h, rs, r, c, fx, n) =
     let s = whole_of w h (take (k + 1) w) (rs ++ (r ∷ [])) a.form (completes_whole w k p h rs r c) (drop (k + 1) w) (sym (take-append-drop (k + 1) w)) in
-    n (middle rs s.1.more r (subst (All (λ t. InOrder t.sort t.amounts)) s.1.same a.ordered))
+    n (middle rs s.1.more r (subst (AllByRecursion (λ t. InOrder t.sort t.amounts)) s.1.same a.ordered))
 lawful_quiet rows w a k (Count p x) (h, rs, r, c, fx, n) =
     let s = whole_of w h (take (k + 1) w) (rs ++ (r ∷ [])) a.form (completes_whole w k p h rs r c) (drop (k + 1) w) (sym (take-append-drop (k + 1) w)) in
     let j : ℕ = rank r.sort in

@@ -1,6 +1,6 @@
 -- The reader of a case with the records so far: in order, counted, and no fault shown.
 use Rattle.std.proofs.Common.{◌≡◌, ℕ, zero, suc, ◌+◌, ◌-◌, ◌<◌, ◌≤◌, cond, eqb, ◌⊎◌, List, [], ◌∷◌, ◌++◌, length, get_or, take, drop, set, sym, refl, ap, ◌∙◌, subst, inl, inr, arith}
-use Rattle.std.specs.List.{flat_map, AllByRecursion as All}
+use Rattle.std.specs.List.{flat_map, AllByRecursion}
 use Rattle.std.proofs.lemmas.List.{append_assoc, append-nil, take_more, take_all, length-append, length-take-le, drop_at, get_or-set_same, get_or-set_other, get_or-take, get_or_append_left, take_at, take-take, length-set, length-take, same_from_push}
 use Rattle.std.proofs.lemmas.Slice.{between_is}
 use Rattle.std.proofs.ByRecursion.{All-push}
@@ -47,7 +47,7 @@ pub record Progress (rows w : List ℕ) (i : ℕ) (s : State) (counts : List ℕ
   pub head : List ℕ
   pub records : List Record
   pub got : Read (take i w) s head records
-  pub ordered : All Ordered records
+  pub ordered : AllByRecursion Ordered records
   pub tally : Tally counts records
   pub four : length counts ≡ 4
   pub fitting : (k : ℕ) → k < 4 → get_or counts k 0 ≤ get_or rows k 0
@@ -550,7 +550,7 @@ progress_all rows w i counts p l =
     record {
       form = c;
       met = subst (λ (h : List ℕ). CountsMet h c.records) (sym s.0) (subst (CountsMet p.head) rs (p.met refl));
-      ordered = subst (All Ordered) rs p.ordered;
+      ordered = subst (AllByRecursion Ordered) rs p.ordered;
       fitting = λ k h. subst (λ (z : List Record). count_rank k z ≤ get_or rows k 0) rs (let f = p.fitting k h in let u = p.tally k h in omega arith);
     }
 

@@ -1,6 +1,6 @@
 -- What the words read so far are, at each state of the reader.
 use Rattle.std.proofs.Common.{◌≡◌, ℕ, suc, ◌+◌, ◌<◌, ◌≤◌, List, [], ◌∷◌, ◌++◌, length, get_or, take, sym, refl, ap, ◌∙◌, subst, inl, inr, arith}
-use Rattle.std.specs.List.{flat_map, AllByRecursion as All}
+use Rattle.std.specs.List.{flat_map, AllByRecursion}
 use Rattle.std.proofs.lemmas.List.{append_assoc, append-nil, take_more, take_all, length-append, flat_map_more}
 use Rattle.std.proofs.ByRecursion.{All-push}
 use Rattle.std.proofs.lemmas.Bool.{cases_lt}
@@ -90,7 +90,7 @@ head_done read p rs l e m =
     record {
       words = sym (ap (λ (r : List Record). p ++ flat_map record_words r) e ∙ append-nil p);
       headed = subst (λ (ss : List Slot). Matches ss p) (take_all (suc (read + 1)) head_slots (omega arith)) m;
-      formed = subst (λ (r : List Record). All Formed r) (sym e) tt;
+      formed = subst (λ (r : List Record). AllByRecursion Formed r) (sym e) tt;
     }
 
 -- a word that completes no record: the records stay, and the head once it is complete

@@ -1,6 +1,6 @@
 -- The form of a case, without its counts: a head, its amounts, records in the order of their sorts, an end.
 use Rattle.std.specs.Prelude.{◌≡◌, ℕ, ◌+◌, ◌-◌, ◌/◌, ◌%◌, ◌≤◌, List, [], ◌∷◌, ◌++◌, replicate, pos, negsuc}
-use Rattle.std.specs.List.{flat_map, AllByRecursion as All}
+use Rattle.std.specs.List.{flat_map, AllByRecursion}
 use Rattle.word.specs.Word.{kind_of, payload_of, word_of}
 use Rattle.word.specs.Slot.{Byte, Matches}
 use Rattle.word.specs.declared.kind.Kind.{Kind}
@@ -102,5 +102,5 @@ pub record CaseForm (w : List ℕ) : Type 0 where
   pub records : List Record
   pub words : w ≡ head ++ (flat_map record_words records ++ end_word)
   pub headed : Matches head_slots head
-  pub formed : All Formed records
+  pub formed : AllByRecursion Formed records
   pub sorted : Sorted 0 records

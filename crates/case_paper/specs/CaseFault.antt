@@ -1,6 +1,6 @@
 -- When the words of a case are refused, and when they are a lawful case.
 use Rattle.std.specs.Prelude.{◌≡◌, ℕ, ◌+◌, ◌<◌, ◌≤◌, cond, ◌⊎◌, List, [], ◌∷◌, ◌++◌, length, take, ◌==◌, slice_index}
-use Rattle.std.specs.List.{flat_map, AllByRecursion as All}
+use Rattle.std.specs.List.{flat_map, AllByRecursion}
 use Rattle.word.specs.Word.{kind_of, payload_of}
 use Rattle.word.specs.Form.{Refused}
 use Rattle.word.specs.Slot.{Matches}
@@ -20,7 +20,7 @@ use Rattle.case_paper.specs.declared.fault.CaseFault.TheVariants as fault
 pub record Whole (p head : List ℕ) (rs : List Record) : Type 0 where
   pub words : p ≡ head ++ flat_map record_words rs
   pub headed : Matches head_slots head
-  pub formed : All Formed rs
+  pub formed : AllByRecursion Formed rs
 
 -- how many records are of the sort of this rank
 abbrev pub count_rank : ℕ → List Record → ℕ
@@ -45,7 +45,7 @@ HasRow rows head rs q = (count_rank (rank q) rs < head_count head (rank q)) × (
 pub record LawfulCase (rows w : List ℕ) : Type 0 where
   pub form : CaseForm w
   pub met : CountsMet form.head form.records
-  pub ordered : All (λ r. InOrder r.sort r.amounts) form.records
+  pub ordered : AllByRecursion (λ r. InOrder r.sort r.amounts) form.records
   pub fitting : (k : ℕ) → k < 4 → count_rank k form.records ≤ slice_index rows k
 
 -- ---- the faults that show at a word

@@ -1,6 +1,6 @@
 -- The rows of a lawful case keep their ranges, orders and sizes.
 use Rattle.std.proofs.Common.{◌≡◌, ℕ, zero, suc, Bool, true, false, cond, eqb, List, [], ◌∷◌, map, length, ℤ, pos, ◌≤ℤ◌, None, sym, refl, ap, ◌∙◌, subst, inl, inr, arith}
-use Rattle.std.specs.List.{AllByRecursion as All}
+use Rattle.std.specs.List.{AllByRecursion}
 use Rattle.std.proofs.lemmas.Int.{ints}
 use Rattle.measure.specs.Rows.{Stands, Lowest}
 use Rattle.stepped.specs.Piecewise.{stepped_meaning}
@@ -66,7 +66,7 @@ first-or P row true r rs here later (suc i) x s = later i x s
 first-or P row false r rs here later i x s = later i x s
 
 module _ {T : Type 0} (P : T → Type 0) (row : Record → T) (k : ℕ) (Good : Record → Type 0) (keeps : (r : Record) → eqb (rank r.sort) k ≡ true → Good r → P (row r)) where
-  each_row : (rs : List Record) → All Good rs → (i : ℕ) (x : T) → Stands (map row (of_rank k rs)) i x → P x
+  each_row : (rs : List Record) → AllByRecursion Good rs → (i : ℕ) (x : T) → Stands (map row (of_rank k rs)) i x → P x
   unfolding Stands
   each_row [] good i x s = absurd s
   each_row (r ∷ rs) good i x s =

@@ -1,6 +1,6 @@
 -- The walk over the records of a case.
 use Rattle.std.proofs.Common.{◌≡◌, ℕ, ◌+◌, ◌-◌, ◌<◌, ◌≤◌, List, [], ◌∷◌, ◌++◌, length, get_or, take, drop, sym, refl, ap, ◌∙◌, subst, arith}
-use Rattle.std.specs.List.{flat_map, AllByRecursion as All}
+use Rattle.std.specs.List.{flat_map, AllByRecursion}
 use Rattle.std.proofs.lemmas.List.{append_assoc, append-nil, length-append, length-drop, drop_at, drop-drop, take_at, get_or-drop}
 use Rattle.word.proofs.Slots.{matches_length}
 use Rattle.case_paper.specs.Case.{head_slots, rank, amounts_of, sort_of, Record, record_words, end_word, Formed, CaseForm}
@@ -63,7 +63,7 @@ pub record Standing (w : List ℕ) (c : CaseForm w) (place : ℕ) (t : CaseRows)
   pub holds : Holds t done
   pub formed : Formed this
 
-all_at : (done rest : List Record) (r : Record) → All Formed (done ++ (r ∷ rest)) → Formed r
+all_at : (done rest : List Record) (r : Record) → AllByRecursion Formed (done ++ (r ∷ rest)) → Formed r
 all_at [] rest r a = a.0
 all_at (d ∷ done) rest r a = all_at done rest r a.1
 
@@ -78,7 +78,7 @@ standing_at w c place t done (r ∷ rs) l s e h =
       split = s;
       left = e ∙ append_assoc (record_words r) (flat_map record_words rs) end_word;
       holds = h;
-      formed = all_at done rs r (subst (All Formed) s c.formed);
+      formed = all_at done rs r (subst (AllByRecursion Formed) s c.formed);
     }
 
 pub standing : (w : List ℕ) (c : CaseForm w) (place : ℕ) (t : CaseRows) → place + 1 < length w → Walked w c place t → Standing w c place t

@@ -1,6 +1,6 @@
 -- The places of a dispatch say what its words say; and a dispatch written out.
 use Rattle.std.proofs.Common.{◌≡◌, ℕ, zero, suc, ◌+◌, ◌≤◌, List, [], ◌∷◌, ◌++◌, map, length, get_or, take, drop, set, replicate, ℤ, pos, negsuc, sym, refl, ap, ◌∙◌, subst, arith}
-use Rattle.std.specs.List.{AllByRecursion as All}
+use Rattle.std.specs.List.{AllByRecursion}
 use Rattle.std.proofs.lemmas.List.{length-append, length-map, length-replicate, append_assoc, ext_get_or}
 use Rattle.std.proofs.ByRecursion.{All-weaker}
 use Rattle.std.proofs.lemmas.Int.{ints}
@@ -55,7 +55,7 @@ dispatch-from n m w (d, l, e) =
 zeros : ℕ → List ℤ
 zeros n = replicate n (pos 0)
 
-zeros_in : (P : ℤ → Type 0) → P (pos 0) → (n : ℕ) → All P (zeros n)
+zeros_in : (P : ℤ → Type 0) → P (pos 0) → (n : ℕ) → AllByRecursion P (zeros n)
 unfolding zeros
 zeros_in P p zero = tt
 zeros_in P p (suc n) = (p, zeros_in P p n)

@@ -1,6 +1,6 @@
 -- The places of a price list say what its words say.
 use Rattle.std.proofs.Common.{◌≡◌, ℕ, zero, suc, ◌+◌, ◌*◌, ◌<◌, List, [], ◌∷◌, ◌++◌, map, length, get_or, replicate, pos, negsuc, sym, refl, ap, ◌∙◌, subst, inl, inr, arith}
-use Rattle.std.specs.List.{flat_map, AllByRecursion as All}
+use Rattle.std.specs.List.{flat_map, AllByRecursion}
 use Rattle.std.proofs.lemmas.List.{length-append, length-map, length-replicate, append_assoc, get_or-append-add, get_or_past}
 use Rattle.std.proofs.ByRecursion.{All-weaker}
 use Rattle.std.proofs.lemmas.Bool.{cases_lt}
@@ -32,7 +32,7 @@ record PairsOf (m : ℕ) (u : List ℕ) : Type 0 where
   pairs : List BranchPrices
   words : u ≡ flat_map pair_words pairs
   counted : length pairs ≡ m
-  priced : All PairPriced pairs
+  priced : AllByRecursion PairPriced pairs
 
 double : (m : ℕ) → 2 * suc m ≡ suc (suc (2 * m))
 double m = omega arith
@@ -56,7 +56,7 @@ pairs_words zero [] s = record { pairs = []; words = refl; counted = refl; price
 pairs_words zero (x ∷ u) s = absurd s
 pairs_words (suc m) u s = pairs_step m (pairs_words m) u (subst (λ (k : ℕ). Matches (in_turn k price_slot angle_price_slot) u) (double m) s)
 
-words_pairs : (bs : List BranchPrices) → All PairPriced bs → Matches (in_turn (2 * length bs) price_slot angle_price_slot) (flat_map pair_words bs)
+words_pairs : (bs : List BranchPrices) → AllByRecursion PairPriced bs → Matches (in_turn (2 * length bs) price_slot angle_price_slot) (flat_map pair_words bs)
 words_pairs [] a = tt
 words_pairs (b ∷ bs) a =
     subst (λ (k : ℕ). Matches (in_turn k price_slot angle_price_slot) (flat_map pair_words (b ∷ bs))) (sym (double (length bs))) (
@@ -90,7 +90,7 @@ list_from n m l h =
     (matches_join (in_turn (2 * m) price_slot angle_price_slot) (End ∷ []) (flat_map pair_words l.branches) (word_of kind.End 0 ∷ []) y' (end_fits, tt))
 
 -- the numbers at the places of the pairs
-get_or-first : (bs : List BranchPrices) (rest : List ℕ) (i j : ℕ) → j ≡ 2 * i → i < length bs → All PairPriced bs → amount_of (get_or (flat_map pair_words bs ++ rest) j 0) ≡ get_or (map (λ b. b.congestion) bs) i (pos 0)
+get_or-first : (bs : List BranchPrices) (rest : List ℕ) (i j : ℕ) → j ≡ 2 * i → i < length bs → AllByRecursion PairPriced bs → amount_of (get_or (flat_map pair_words bs ++ rest) j 0) ≡ get_or (map (λ b. b.congestion) bs) i (pos 0)
 get_or-first [] rest i j e h a = absurd (omega arith)
 get_or-first (b ∷ bs) rest zero zero e h a = amount_back b.congestion (price-short b.congestion a.0.0)
 get_or-first (b ∷ bs) rest zero (suc j) e h a = absurd (omega arith)
@@ -98,7 +98,7 @@ get_or-first (b ∷ bs) rest (suc i) zero e h a = absurd (omega arith)
 get_or-first (b ∷ bs) rest (suc i) (suc zero) e h a = absurd (omega arith)
 get_or-first (b ∷ bs) rest (suc i) (suc (suc j)) e h a = get_or-first bs rest i j (omega arith) (omega arith) a.1
 
-get_or-second : (bs : List BranchPrices) (rest : List ℕ) (i j : ℕ) → j ≡ 2 * i + 1 → i < length bs → All PairPriced bs → amount_of (get_or (flat_map pair_words bs ++ rest) j 0) ≡ get_or (map (λ b. b.angle) bs) i (pos 0)
+get_or-second : (bs : List BranchPrices) (rest : List ℕ) (i j : ℕ) → j ≡ 2 * i + 1 → i < length bs → AllByRecursion PairPriced bs → amount_of (get_or (flat_map pair_words bs ++ rest) j 0) ≡ get_or (map (λ b. b.angle) bs) i (pos 0)
 get_or-second [] rest i j e h a = absurd (omega arith)
 get_or-second (b ∷ bs) rest zero zero e h a = absurd (omega arith)
 get_or-second (b ∷ bs) rest zero (suc zero) e h a = amount_back b.angle (angle-price_short b.angle a.0.1)
@@ -107,7 +107,7 @@ get_or-second (b ∷ bs) rest (suc i) zero e h a = absurd (omega arith)
 get_or-second (b ∷ bs) rest (suc i) (suc zero) e h a = absurd (omega arith)
 get_or-second (b ∷ bs) rest (suc i) (suc (suc j)) e h a = get_or-second bs rest i j (omega arith) (omega arith) a.1
 
-module _ (w pre : List ℕ) (bs : List BranchPrices) (rest : List ℕ) (m i : ℕ) (e : w ≡ pre ++ (flat_map pair_words bs ++ rest)) (n : length bs ≡ m) (a : All PairPriced bs) where
+module _ (w pre : List ℕ) (bs : List BranchPrices) (rest : List ℕ) (m i : ℕ) (e : w ≡ pre ++ (flat_map pair_words bs ++ rest)) (n : length bs ≡ m) (a : AllByRecursion PairPriced bs) where
   read_at : (j k : ℕ) → k ≡ length pre + j → amount_of (get_or w k 0) ≡ amount_of (get_or (flat_map pair_words bs ++ rest) j 0)
   read_at j k h =
       ap (λ (x : ℕ). amount_of (get_or w x 0)) h ∙ ap (λ (v : List ℕ). amount_of (get_or v (length pre + j) 0)) e
@@ -161,7 +161,7 @@ prices-from n m w (l, h, e) =
 free : ℕ → ℕ → Prices
 free n m = record { buses = replicate n (pos 0); branches = replicate m (record { congestion = pos 0; angle = pos 0 }) }
 
-all_same : {X : Type 0} (P : X → Type 0) (x : X) → P x → (n : ℕ) → All P (replicate n x)
+all_same : {X : Type 0} (P : X → Type 0) (x : X) → P x → (n : ℕ) → AllByRecursion P (replicate n x)
 all_same P x p zero = tt
 all_same P x p (suc n) = (p, all_same P x p n)
 

@@ -1,6 +1,6 @@
 -- The paper of a dispatch.
 use Rattle.std.specs.Prelude.{◌≡◌, ℕ, List, [], ◌∷◌, ◌++◌, map, length, ℤ}
-use Rattle.std.specs.List.{AllByRecursion as All}
+use Rattle.std.specs.List.{AllByRecursion}
 use Rattle.word.specs.Word.{word_of, amount_word}
 use Rattle.word.specs.Form.{Form}
 use Rattle.word.specs.Column.{Gives}
@@ -20,8 +20,8 @@ dispatch_words d =
 
 -- each number is in the range of its measure
 pub record InUnits (d : Dispatch) : Type 0 where
-  pub powers : All Power d.powers
-  pub angles : All Angle d.angles
+  pub powers : AllByRecursion Power d.powers
+  pub angles : AllByRecursion Angle d.angles
 
 -- a dispatch of so many powers and angles
 pub record LawfulDispatch (n m : ℕ) (d : Dispatch) : Type 0 where

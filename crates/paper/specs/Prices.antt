@@ -1,6 +1,6 @@
 -- The paper of a price list.
 use Rattle.std.specs.Prelude.{◌≡◌, ℕ, ◌+◌, ◌*◌, List, [], ◌∷◌, ◌++◌, map, length, ℤ}
-use Rattle.std.specs.List.{flat_map, AllByRecursion as All}
+use Rattle.std.specs.List.{flat_map, AllByRecursion}
 use Rattle.word.specs.Word.{word_of, amount_word}
 use Rattle.word.specs.Form.{Form}
 use Rattle.word.specs.Column.{column_value, value_of, Gives}
@@ -36,8 +36,8 @@ PairPriced b = Priced b.congestion × AnglePriced b.angle
 pub record LawfulPrices (n m : ℕ) (l : Prices) : Type 0 where
   pub buses : length l.buses ≡ n
   pub branches : length l.branches ≡ m
-  pub prices : All Priced l.buses
-  pub pairs : All PairPriced l.branches
+  pub prices : AllByRecursion Priced l.buses
+  pub pairs : AllByRecursion PairPriced l.branches
 
 abbrev pub PricesForm : ℕ → ℕ → Form
 PricesForm n m w = (l : Prices) × LawfulPrices n m l × (w ≡ prices_words l)

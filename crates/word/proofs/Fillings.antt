@@ -1,6 +1,6 @@
 -- Runs of amounts within a range, and the words of a head, a name and an end.
 use Rattle.std.proofs.Common.{◌≡◌, ℕ, zero, suc, ◌+◌, ◌*◌, ◌<◌, List, [], ◌∷◌, ◌++◌, map, length, get_or, ℤ, pos, ◌≤ℤ◌, sym, refl, ap, ◌∙◌, subst, inl, inr, arith}
-use Rattle.std.specs.List.{AllByRecursion as All}
+use Rattle.std.specs.List.{AllByRecursion}
 use Rattle.std.proofs.lemmas.List.{get_or-append-add, get_or_past}
 use Rattle.std.proofs.lemmas.Bool.{cases_lt}
 use Rattle.word.specs.Word.{kind_number, amount_of, word_of, amount_word}
@@ -50,7 +50,7 @@ module _ (least most : ℤ) where
   amount_fits z s b = (amount_kind z, subst Between (sym (amount_back z s)) b)
 
   -- words that fit a run of amounts are what their amounts write
-  pub run_words : (n : ℕ) (u : List ℕ) → Matches (in_turn n (Amount least most) (Amount least most)) u → (u ≡ map amount_word (map amount_of u)) × (length (map amount_of u) ≡ n) × All Between (map amount_of u)
+  pub run_words : (n : ℕ) (u : List ℕ) → Matches (in_turn n (Amount least most) (Amount least most)) u → (u ≡ map amount_word (map amount_of u)) × (length (map amount_of u) ≡ n) × AllByRecursion Between (map amount_of u)
   run_words zero [] m = (refl, refl, tt)
   run_words zero (x ∷ u) m = absurd m
   run_words (suc n) [] m = absurd m
@@ -60,17 +60,17 @@ module _ (least most : ℤ) where
       (ap (λ (y : ℕ). y ∷ u) e ∙ ap (λ (l : List ℕ). amount_word (amount_of x) ∷ l) r.0, ap suc r.1, (m.0.1, r.2))
 
   -- and what amounts in the range write fits the run
-  pub words_run : ((z : ℤ) → Between z → Short z) → (zs : List ℤ) → All Between zs → Matches (in_turn (length zs) (Amount least most) (Amount least most)) (map amount_word zs)
+  pub words_run : ((z : ℤ) → Between z → Short z) → (zs : List ℤ) → AllByRecursion Between zs → Matches (in_turn (length zs) (Amount least most) (Amount least most)) (map amount_word zs)
   words_run fit [] a = tt
   words_run fit (z ∷ zs) a = (amount_fits z (fit z a.0) a.0, words_run fit zs a.1)
 
 -- the amounts that a run's words give, by place
-get_or-run : (zs : List ℤ) (rest : List ℕ) (i : ℕ) → i < length zs → All Short zs → amount_of (get_or (map amount_word zs ++ rest) i 0) ≡ get_or zs i (pos 0)
+get_or-run : (zs : List ℤ) (rest : List ℕ) (i : ℕ) → i < length zs → AllByRecursion Short zs → amount_of (get_or (map amount_word zs ++ rest) i 0) ≡ get_or zs i (pos 0)
 get_or-run [] rest i h a = absurd (omega arith)
 get_or-run (z ∷ zs) rest zero h a = amount_back z a.0
 get_or-run (z ∷ zs) rest (suc i) h a = get_or-run zs rest i (omega arith) a.1
 
-pub column_run : (w pre : List ℕ) (zs : List ℤ) (rest : List ℕ) (start count i : ℕ) → w ≡ pre ++ (map amount_word zs ++ rest) → length pre ≡ start → length zs ≡ count → All Short zs → column_value w start count 1 i ≡ get_or zs i (pos 0)
+pub column_run : (w pre : List ℕ) (zs : List ℤ) (rest : List ℕ) (start count i : ℕ) → w ≡ pre ++ (map amount_word zs ++ rest) → length pre ≡ start → length zs ≡ count → AllByRecursion Short zs → column_value w start count 1 i ≡ get_or zs i (pos 0)
 column_run w pre zs rest start count i e l n a =
     elim (cases_lt i count) [
       | inl h ↦

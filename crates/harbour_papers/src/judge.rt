@@ -12,6 +12,7 @@ use paper_file::call::{Call, call_of};
 use paper_file::papers::paper_len;
 use pricing::floor::floor;
 use stepped::stepped::Stepped;
+use word::column::WordColumn;
 
 // A refusal, by its number and place.
 pub(crate) fn refused(rt: &HostRuntime, number: u32, place: usize) -> anyhow::Result<()> {
@@ -30,6 +31,16 @@ fn answer(rt: &HostRuntime, what: &str, answer: Result<Grains, Refusal>) -> anyh
     }
 }
 
+// So many numbers of a column, from a row on.
+fn part<'a>(column: WordColumn<'a>, from: usize, count: usize) -> WordColumn<'a> {
+    WordColumn {
+        words: column.words,
+        start: column.start.saturating_add(from),
+        count,
+        stride: column.stride,
+    }
+}
+
 // The cost of a dispatch paper.
 fn judge_dispatch(
     rt: &HostRuntime,
@@ -39,12 +50,12 @@ fn judge_dispatch(
     let first = rows_used(case.first.rows, case.first.count) as usize;
     let second = rows_used(case.second.rows, case.second.count) as usize;
     let angles = (rows_used(case.buses, case.nb) as usize).saturating_sub(1);
-    match read_dispatch(words, first, second, angles) {
+    match read_dispatch(words, first + second, angles) {
         Err(fault) => refused(rt, fault.refusal.number(), fault.place),
         Ok(paper) => {
             let dispatch = Dispatch {
-                first: paper.first,
-                second: paper.second,
+                first: part(paper.powers, 0, first),
+                second: part(paper.powers, first, second),
                 angles: paper.angles,
             };
             answer(rt, "COST", judge(case, &dispatch))

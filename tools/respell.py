@@ -13,7 +13,7 @@ import sys
 
 KEYWORDS = {"pub", "abbrev", "unfoldable", "record", "data", "axiom"}
 NOT_NAMES = {"use", "module", "let", "in", "where", "infix", "infixl", "infixr", "elim", "rw", "--", "λ", "unfolding", "and"}
-DECLARED = re.compile(r"^(\s*)((?:(?:pub|abbrev|unfoldable|record|data|axiom)\s+)*)([^\s(){}:;,.=|]+(?:\s+[^\s(){}:;,.=|]+)*)\s*(?:[({][^=]*)?:\s")
+DECLARED = re.compile(r"^(\s*)((?:(?:pub|abbrev|unfoldable|record|data|axiom)\s+)*)([^\s(){}:;,.=|]+(?:\s+[^\s(){}:;,.=|]+)*)\s*(?:[({][^=]*)?:(?:\s|$)")
 GENERATED = re.compile(r":\s*(goal|given)\.")
 TOKEN = re.compile(r"[^\s(){}\[\].,;«»⟦⟧\"]+")
 BY_HAND = {
@@ -88,7 +88,7 @@ def humps(name):
 def respelt(name, functions, lemma):
     if name in BY_HAND:
         return BY_HAND[name]
-    if not re.match(r"^[A-Za-z]", name) or re.search(r"[^A-Za-z0-9_'₀-₉⊕ᶠ-]", name):
+    if not re.match(r"^[A-Za-z]", name) or re.search(r"[^A-Za-z0-9_'₀-₉⊕ᶠ→≡-]", name):
         return name
     if name[0].isupper():
         parts = name.split("-")
@@ -132,7 +132,7 @@ def main():
     for path in files((".antt", ".rt")):
         tokens.update(TOKEN.findall(read(path)))
     names = {}
-    for n in sorted(words | lemmas):
+    for n in sorted((words | lemmas) - set(BY_HAND.values())):
         to = respelt(n, functions, n in lemmas)
         if to == n:
             continue

@@ -169,15 +169,15 @@ module _ (ρ : List ℤ) where
   norm_val (mul a b) = mul_p_val (norm a) (norm b) ∙ (λ i. norm_val a i *ℤ norm_val b i)
   norm_val (neg a) = minus_val (norm a) ∙ ap neg_ℤ (norm_val a)
 
-  isZero→≡ : (c : ℤ) → T (is_zero c) → c ≡ pos 0
-  isZero→≡ (pos n) h = ap pos (eqb→eq n 0 h)
-  isZero→≡ (negsuc n) h = absurd h
+  is_zero→≡ : (c : ℤ) → T (is_zero c) → c ≡ pos 0
+  is_zero→≡ (pos n) h = ap pos (eqb→eq n 0 h)
+  is_zero→≡ (negsuc n) h = absurd h
 
   all_zero_val : (p : Poly) → T (all_zero p) → val p ρ ≡ pos 0
   all_zero_val nil h = refl
   all_zero_val (term c m p) h =
       let both = cond_T (is_zero c) (all_zero p) h in
-      (λ i. isZero→≡ c both.0 i *ℤ val_m m ρ +ℤ all_zero_val p both.1 i) ∙ ap (λ x. x +ℤ pos 0) (zero-*ℤ (val_m m ρ))
+      (λ i. is_zero→≡ c both.0 i *ℤ val_m m ρ +ℤ all_zero_val p both.1 i) ∙ ap (λ x. x +ℤ pos 0) (zero-*ℤ (val_m m ρ))
 
 equal : (a b : ℤ) → a -ℤ b ≡ pos 0 → a ≡ b
 equal a b h = omega (arith, same_in, same_out, sum_is_lem, neg_is)

@@ -29,22 +29,22 @@ module _ (m : Model) (start : m.Case) where
   case_kept h (hand_over p) n = refl
   case_kept h stand_down n = refl
 
-  pub case-taken :
+  pub case_taken :
       (h : History m) (x : m.Change) (k : m.Case) → full_at h ≡ false → m.changed (case_at m start h) x ≡ Some k →
       case_at m start (change (Some x) ∷ h) ≡ k
-  case-taken h x k f e = cond-false (full_at h) _ _ f ∙ ap (λ r. unwrap_or r (case_at m start h)) e
+  case_taken h x k f e = cond-false (full_at h) _ _ f ∙ ap (λ r. unwrap_or r (case_at m start h)) e
 
   -- what was offered since the last taken change meets the case as it now is
-  pub now-meeting :
+  pub now_meeting :
       {h : History m} {d : Priced m} → MeetingSince m start h d →
       Meets m (case_at m start h) d.dispatch × (d.cost ≡ m.counted (case_at m start h) d.dispatch)
-  now-meeting (newest (meeting f k)) = (k, refl)
-  now-meeting {d = d} (earlier {h = h} {c = c} n s) =
-      subst (λ k. Meets m k d.dispatch × (d.cost ≡ m.counted k d.dispatch)) (sym (case_kept h c n)) (now-meeting s)
+  now_meeting (newest (meeting f k)) = (k, refl)
+  now_meeting {d = d} (earlier {h = h} {c = c} n s) =
+      subst (λ k. Meets m k d.dispatch × (d.cost ≡ m.counted k d.dispatch)) (sym (case_kept h c n)) (now_meeting s)
 
-  pub now-lawful :
+  pub now_lawful :
       {h : History m} {f : ℤ} → FloorSince m start h f →
       (l : m.Prices) × m.Lawful (case_at m start h) l × (f ≡ m.floor_of (case_at m start h) l)
-  now-lawful (newest (lawful {l = l} f k)) = (l, k, refl)
-  now-lawful {f = f} (earlier {h = h} {c = c} n s) =
-      subst (λ k. (l : m.Prices) × m.Lawful k l × (f ≡ m.floor_of k l)) (sym (case_kept h c n)) (now-lawful s)
+  now_lawful (newest (lawful {l = l} f k)) = (l, k, refl)
+  now_lawful {f = f} (earlier {h = h} {c = c} n s) =
+      subst (λ k. (l : m.Prices) × m.Lawful k l × (f ≡ m.floor_of k l)) (sym (case_kept h c n)) (now_lawful s)

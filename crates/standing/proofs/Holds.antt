@@ -52,11 +52,11 @@ module _ (m : Model) (start : m.Case) where
         counts = subst (CountsStand m start Never (c ∷ h)) e (counts_kept start (λ z. z) n i.counts);
       }
 
-  watch-kept :
+  watch_kept :
       (h : History m) (c : Call m) → ¬ Made h c → ¬ Opens c → attendant_at (c ∷ h) ≡ attendant_at h →
       (w : Option Watch) → OnWatch m start h w → OnWatch m start (c ∷ h) w
-  watch-kept h c n k e None t = e ∙ t
-  watch-kept h c n k e (Some w) t =
+  watch_kept h c n k e None t = e ∙ t
+  watch_kept h c n k e (Some w) t =
       record { attendant_is = e ∙ t.attendant_is; counts_stand = counts_kept start k n t.counts_stand }
 
   -- a watch that has just been opened
@@ -68,7 +68,7 @@ module _ (m : Model) (start : m.Case) where
       {h : History m} {c : Call m} {sheets : List Sheet} {s : State m} → ¬ Made h c → ¬ Opens c → ¬ Ends c → attendant_at (c ∷ h) ≡ attendant_at h →
       WatchMade (c ∷ h) s.watch → Holds h sheets s → Holds (c ∷ h) sheets s
   unmoved {h} {c} {sheets} {s} n k x e b i =
-      quiet n i sheets s.watch (watch-kept h c n k e s.watch i.watch) b (unwritten x i.sheets_stand) refl
+      quiet n i sheets s.watch (watch_kept h c n k e s.watch i.watch) b (unwritten x i.sheets_stand) refl
 
   -- ---- an offer or a change that the open watch, not full, counts
 

@@ -7,9 +7,9 @@ use Rattle.standing.specs.Call.Call.{offer, change, ask, hand_over}
 use Rattle.standing.specs.Panel.{Counts, Heading, Watch, State, none_yet, raised, total, is_full, counting}
 use Rattle.standing.specs.Panel.Heading.{HELD, PASSED, DECLINED, CHANGES}
 use Rattle.standing.specs.Step.{Offered, ChangeMade, Step}
-use Rattle.standing.specs.Step.Offered.{dispatch-held, dispatch-passed, dispatch_declined, dispatch_faulty, prices-held, prices-passed, prices_declined, prices_faulty}
+use Rattle.standing.specs.Step.Offered.{dispatch_held, dispatch_passed, dispatch_declined, dispatch_faulty, prices_held, prices_passed, prices_declined, prices_faulty}
 use Rattle.standing.specs.Step.ChangeMade.{change_taken, change_declined, change_faulty}
-use Rattle.standing.specs.Step.Step.{manned, offer-counted, change-counted, offer_too_many, change-too-many, asked, handed_over, hand_over_refused, stood_down}
+use Rattle.standing.specs.Step.Step.{manned, offer_counted, change_counted, offer_too_many, change_too_many, asked, handed_over, hand_over_refused, stood_down}
 use Rattle.standing.specs.Theorems.{Refused, OfferOrChange, RefusalsAlterNothing}
 use Rattle.standing.specs.Theorems.Refused.{faulty_dispatch, limits_broken, faulty_prices, not_lawful, faulty_change, name_lacking}
 use Rattle.standing.proofs.Options.{some_injective, none-some}
@@ -32,10 +32,10 @@ declined_alone PASSED n e = absurd (omega (arith, e))
 declined_alone DECLINED n e = refl
 declined_alone CHANGES n e = absurd (omega (arith, e))
 
-declined-heading :
+declined_heading :
     (k : Heading) (u v w : Watch) → Some (record { attendant = u.attendant; counts = raised k u.counts }) ≡ Some v → u ≡ w →
     v.counts.declined ≡ w.counts.declined + 1 → k ≡ DECLINED
-declined-heading k u v w e q n =
+declined_heading k u v w e q n =
     declined_alone k u.counts (ap (λ z. z.counts.declined) (some_injective e) ∙ n ∙ ap (λ z. z.counts.declined + 1) (sym q))
 
 -- a watch that is as it was has declined no more
@@ -47,12 +47,12 @@ none-raised a v w e n = let k : 0 ≡ v.counts.declined = ap (λ z. z.counts.dec
 
 module _ {m : Model} where
   offer_refused : {s : State m} {o : Offer m} {k : Heading} {t : State m} → Offered s o k t → Refused s (offer o) → (k ≡ DECLINED) × (t ≡ s)
-  offer_refused (dispatch-held x q) (limits_broken n) = absurd (n x)
-  offer_refused (dispatch-passed x q) (limits_broken n) = absurd (n x)
+  offer_refused (dispatch_held x q) (limits_broken n) = absurd (n x)
+  offer_refused (dispatch_passed x q) (limits_broken n) = absurd (n x)
   offer_refused (dispatch_declined x) (limits_broken n) = (refl, refl)
   offer_refused dispatch_faulty faulty_dispatch = (refl, refl)
-  offer_refused (prices-held x q) (not_lawful n) = absurd (n x)
-  offer_refused (prices-passed x q) (not_lawful n) = absurd (n x)
+  offer_refused (prices_held x q) (not_lawful n) = absurd (n x)
+  offer_refused (prices_passed x q) (not_lawful n) = absurd (n x)
   offer_refused (prices_declined x) (not_lawful n) = (refl, refl)
   offer_refused prices_faulty faulty_prices = (refl, refl)
 
@@ -63,10 +63,10 @@ module _ {m : Model} where
 
   refused : (c : Call m) (s t : State m) (w : Watch) → Step c s t → s.watch ≡ Some w → is_full (total w.counts) ≡ false → Refused s c → t ≡ counting DECLINED w s
   refused c s t w (manned p) q r x = elim x [ ]
-  refused c s t w (offer-counted p f y) q r x = counting_same p q (offer_refused y x)
-  refused c s t w (change-counted p f y) q r x = counting_same p q (change_refused y x)
+  refused c s t w (offer_counted p f y) q r x = counting_same p q (offer_refused y x)
+  refused c s t w (change_counted p f y) q r x = counting_same p q (change_refused y x)
   refused c s t w (offer_too_many p f) q r x = full_and_not p q f r
-  refused c s t w (change-too-many p f) q r x = full_and_not p q f r
+  refused c s t w (change_too_many p f) q r x = full_and_not p q f r
   refused c s t w (asked y) q r x = elim x [ ]
   refused c s t w (handed_over p) q r x = elim x [ ]
   refused c s t w (hand_over_refused p) q r x = elim x [ ]
@@ -82,26 +82,26 @@ module _ {m : Model} where
   declined_change (change_declined e) = name_lacking e
   declined_change change_faulty = faulty_change
 
-  only-refused :
+  only_refused :
       (c : Call m) (s t : State m) (w v : Watch) → Step c s t → s.watch ≡ Some w → t.watch ≡ Some v → v.counts.declined ≡ w.counts.declined + 1 → Refused s c
-  only-refused c s t w v (manned p) q e n = absurd (none-some p q)
-  only-refused c s t w v (offer-counted {t = u} {o = o} {k = k} {w = x} p f y) q e n =
-      declined_offer (subst (λ z. Offered s o z u) (declined-heading k x v w e (watch_same p q) n) y)
-  only-refused c s t w v (change-counted {t = u} {x = x} {k = k} {w = z} p f y) q e n =
-      declined_change (subst (λ l. ChangeMade s x l u) (declined-heading k z v w e (watch_same p q) n) y)
-  only-refused c s t w v (offer_too_many p f) q e n = not_raised v w (watch_same e q) n
-  only-refused c s t w v (change-too-many p f) q e n = not_raised v w (watch_same e q) n
-  only-refused c s t w v (asked y) q e n = not_raised v w (watch_same e q) n
-  only-refused c s t w v (handed_over {a = a} p) q e n = none-raised a v w e n
-  only-refused c s t w v (hand_over_refused p) q e n = not_raised v w (watch_same e q) n
-  only-refused c s t w v (stood_down p) q e n = absurd (none-some refl e)
+  only_refused c s t w v (manned p) q e n = absurd (none-some p q)
+  only_refused c s t w v (offer_counted {t = u} {o = o} {k = k} {w = x} p f y) q e n =
+      declined_offer (subst (λ z. Offered s o z u) (declined_heading k x v w e (watch_same p q) n) y)
+  only_refused c s t w v (change_counted {t = u} {x = x} {k = k} {w = z} p f y) q e n =
+      declined_change (subst (λ l. ChangeMade s x l u) (declined_heading k z v w e (watch_same p q) n) y)
+  only_refused c s t w v (offer_too_many p f) q e n = not_raised v w (watch_same e q) n
+  only_refused c s t w v (change_too_many p f) q e n = not_raised v w (watch_same e q) n
+  only_refused c s t w v (asked y) q e n = not_raised v w (watch_same e q) n
+  only_refused c s t w v (handed_over {a = a} p) q e n = none-raised a v w e n
+  only_refused c s t w v (hand_over_refused p) q e n = not_raised v w (watch_same e q) n
+  only_refused c s t w v (stood_down p) q e n = absurd (none-some refl e)
 
   too_many : (c : Call m) (s t : State m) (w : Watch) → Step c s t → s.watch ≡ Some w → is_full (total w.counts) ≡ true → OfferOrChange c → t ≡ s
   too_many c s t w (manned p) q f x = elim x [ ]
-  too_many c s t w (offer-counted p r y) q f x = full_and_not q p f r
-  too_many c s t w (change-counted p r y) q f x = full_and_not q p f r
+  too_many c s t w (offer_counted p r y) q f x = full_and_not q p f r
+  too_many c s t w (change_counted p r y) q f x = full_and_not q p f r
   too_many c s t w (offer_too_many p r) q f x = refl
-  too_many c s t w (change-too-many p r) q f x = refl
+  too_many c s t w (change_too_many p r) q f x = refl
   too_many c s t w (asked y) q f x = elim x [ ]
   too_many c s t w (handed_over p) q f x = elim x [ ]
   too_many c s t w (hand_over_refused p) q f x = elim x [ ]
@@ -114,4 +114,4 @@ module _ {m : Model} where
   hand_over_left s t (hand_over_refused p) = refl
 
 pub refusals_alter_nothing : (m : Model) → RefusalsAlterNothing m
-refusals_alter_nothing m = record { refused = refused; only-refused = only-refused; too_many = too_many; asked = asked_left; hand_over_refused = hand_over_left }
+refusals_alter_nothing m = record { refused = refused; only_refused = only_refused; too_many = too_many; asked = asked_left; hand_over_refused = hand_over_left }

@@ -8,7 +8,7 @@ use Rattle.standing.specs.Call.{Call, Offer, History}
 use Rattle.standing.specs.Call.Call.{man, offer, change, ask, hand_over, stand_down}
 use Rattle.standing.specs.Panel.{Heading, Watch, Sheet, Priced, State, none_yet, total, is_full, with_watch, counting, sheet_of, open_sheet}
 use Rattle.standing.specs.Step.{Offered, ChangeMade, Step, sheets_of}
-use Rattle.standing.specs.Step.Step.{manned, offer-counted, change-counted, offer_too_many, change-too-many, asked, handed_over, hand_over_refused, stood_down}
+use Rattle.standing.specs.Step.Step.{manned, offer_counted, change_counted, offer_too_many, change_too_many, asked, handed_over, hand_over_refused, stood_down}
 use Rattle.standing.specs.Run.{Run}
 use Rattle.standing.specs.Run.Run.{new, called}
 use Rattle.standing.specs.Told.{Opens, Ends, Made, CountOf, attendant_at, made_in_watch, full_at, case_at, OffersMeeting, OffersFloor}
@@ -20,7 +20,7 @@ use Rattle.standing.specs.Theorems.{StandingTheorem}
 use Rattle.standing.proofs.Options.{some_injective, none-some}
 use Rattle.standing.proofs.Best.{by_cost, by_floor, IsBest}
 use Rattle.standing.proofs.Counting.{moved-over_all, made_room}
-use Rattle.standing.proofs.Cases.{now-meeting, now-lawful}
+use Rattle.standing.proofs.Cases.{now_meeting, now_lawful}
 use Rattle.standing.proofs.Holds.{ShownBest, FloorBest, WatchMade, Holds, quiet, watch_opened, unmoved}
 use Rattle.standing.proofs.Offers.{offer_step, change_step}
 
@@ -46,11 +46,11 @@ module _ (m : Model) (start : m.Case) where
           only_if_offered = λ e. (x, b.offered);
           if_offered = λ d t. refl;
           is_offered = λ d e. (at d e).offered;
-          at_counted_cost = λ d e. (now-meeting m start (at d e).offered).1;
-          meets_now = λ d e. (now-meeting m start (at d e).offered).0;
+          at_counted_cost = λ d e. (now_meeting m start (at d e).offered).1;
+          meets_now = λ d e. (now_meeting m start (at d e).offered).0;
           truly = λ d e.
-              subst (λ z. m.true_cost (case_at m start h) (m.in_fractions (case_at m start h) d.dispatch) ≤ᶠ whole z) (sym (now-meeting m start (at d e).offered).1)
-              (grounds.covers (case_at m start h) k d.dispatch (now-meeting m start (at d e).offered).0);
+              subst (λ z. m.true_cost (case_at m start h) (m.in_fractions (case_at m start h) d.dispatch) ≤ᶠ whole z) (sym (now_meeting m start (at d e).offered).1)
+              (grounds.covers (case_at m start h) k d.dispatch (now_meeting m start (at d e).offered).0);
           first = λ d e. (at d e).first;
           cheapest = λ d g e t. (at d e).best g t;
         }
@@ -58,7 +58,7 @@ module _ (m : Model) (start : m.Case) where
     floor_stands : (h : History m) (o : Option ℤ) → m.WellFormed (case_at m start h) → FloorBest m start h o → FloorStands m start h o
     floor_stands h None k b =
         record {
-          none-cheaper = λ f e. absurd (none-some refl e);
+          none_cheaper = λ f e. absurd (none-some refl e);
           only_if_offered = λ e. absurd (false≢true e);
           if_offered = λ f t. absurd (b f t);
           is_offered = λ f e. absurd (none-some refl e);
@@ -69,8 +69,8 @@ module _ (m : Model) (start : m.Case) where
         λ f e. subst (IsBest m start by_floor (OffersFloor m start) h) (some_injective e) b
         in
         record {
-          none-cheaper = λ f e r q.
-              let l = now-lawful m start (at f e).offered in
+          none_cheaper = λ f e r q.
+              let l = now_lawful m start (at f e).offered in
               subst (λ z. whole z ≤ᶠ m.true_cost (case_at m start h) r) (sym l.2) (grounds.bounds (case_at m start h) k l.0 l.1 r q);
           only_if_offered = λ e. (x, b.offered);
           if_offered = λ f t. refl;
@@ -101,10 +101,10 @@ module _ (m : Model) (start : m.Case) where
         let k : total w.counts < 1000000 = leb-false 1000000 (total w.counts) f in lt-leb 1000000 (made_in_watch h) (omega (arith, n, k))
 
     -- a full watch leaves the panel as it was
-    full-step :
+    full_step :
         (h : History m) (c : Call m) (sheets : List Sheet) (s : State m) (w : Watch) → s.watch ≡ Some w → is_full (total w.counts) ≡ true →
         ¬ Opens c → ¬ Ends c → attendant_at (c ∷ h) ≡ attendant_at h → made_in_watch (c ∷ h) ≡ made_in_watch h + 1 → Holds m start h sheets s → Holds m start (c ∷ h) sheets s
-    full-step h c sheets s w e f k x same one i =
+    full_step h c sheets s w e f k x same one i =
         let n : WatchMade m start h (Some w) = subst (WatchMade m start h) e i.made in
         let full : full_at h ≡ true = full_met h w n f in
         unmoved m start (λ t. true≢false (sym full ∙ made_room t)) k x same
@@ -154,10 +154,10 @@ module _ (m : Model) (start : m.Case) where
       holds_on c t (manned {a = a} e) =
           quiet m start (λ x. elim x [ ]) i sheets (Some (record { attendant = a; counts = none_yet })) (watch_opened m start h (man a) a by_manning refl) refl
           (unwritten (λ x. elim x [ ]) i.sheets_stand) (ap (λ v. over_all (of_watch v) sheets) e)
-      holds_on c t (offer-counted {t = u} {o = o} {k = k} {w = w} e f x) = offer_on w e f o k u x
-      holds_on c t (change-counted {t = u} {x = x} {k = k} {w = w} e f y) = change_on w e f x k u y
-      holds_on c t (offer_too_many {o = o} {w = w} e f) = full-step h (offer o) sheets s w e f (λ x. elim x [ ]) (λ x. elim x [ ]) refl refl i
-      holds_on c t (change-too-many {x = x} {w = w} e f) = full-step h (change x) sheets s w e f (λ y. elim y [ ]) (λ y. elim y [ ]) refl refl i
+      holds_on c t (offer_counted {t = u} {o = o} {k = k} {w = w} e f x) = offer_on w e f o k u x
+      holds_on c t (change_counted {t = u} {x = x} {k = k} {w = w} e f y) = change_on w e f x k u y
+      holds_on c t (offer_too_many {o = o} {w = w} e f) = full_step h (offer o) sheets s w e f (λ x. elim x [ ]) (λ x. elim x [ ]) refl refl i
+      holds_on c t (change_too_many {x = x} {w = w} e f) = full_step h (change x) sheets s w e f (λ y. elim y [ ]) (λ y. elim y [ ]) refl refl i
       holds_on c t (asked {q = q} x) =
           unmoved m start (λ y. elim y [ ]) (λ y. elim y [ ]) (λ y. elim y [ ]) refl (made_kept (ask q) refl s.watch i.made) i
       holds_on c t (handed_over {a = a} {w = w} e) =
@@ -195,7 +195,7 @@ standing_theorem m grounds start h sheets s r =
       well_formed = subst m.WellFormed (sym i.case_is) i.well;
       shown_stands = now-shown;
       floor_stands = now-floor;
-      floor_below = λ d f p q. between f d.cost _ (now-floor.none-cheaper f q _ (now-shown.meets_now d p).in_fractions) (now-shown.truly d p);
+      floor_below = λ d f p q. between f d.cost _ (now-floor.none_cheaper f q _ (now-shown.meets_now d p).in_fractions) (now-shown.truly d p);
       watch_stands = i.watch;
       sheets_stand = i.sheets_stand;
       counts_stand = i.counts;

@@ -29,7 +29,7 @@ module _ (m : Model) (start : m.Case) where
   -- what is shown as the floor
   pub record FloorStands (h : History m) (floor : Option ℤ) : Type 0 where
     -- every dispatch that meets the case, in fractions too, truly costs at least the floor
-    pub none-cheaper :
+    pub none_cheaper :
         (f : ℤ) → floor ≡ Some f → (r : m.Rival) → m.MeetsInFractions (case_at m start h) r → whole f ≤ᶠ m.true_cost (case_at m start h) r
     -- one is shown exactly if a lawful list was offered since the last taken change
     pub only_if_offered : is_some floor ≡ true → (f : ℤ) × FloorSince m start h f

@@ -17,18 +17,18 @@ module _ {m : Model} where
   -- what becomes of an offer: the heading that it comes under, and the panel after it
   pub data Offered (s : State m) : Offer m → Heading → State m → Type 0 where
     -- a dispatch that meets the case is shown if it is cheaper than the one shown
-    dispatch-held :
+    dispatch_held :
         {d : m.Dispatch} → Meets m s.case d → Improves Cheaper (priced s.case d) s.shown →
         Offered s (dispatch (Some d)) HELD (showing (priced s.case d) s)
-    dispatch-passed :
+    dispatch_passed :
         {d : m.Dispatch} → Meets m s.case d → ¬ Improves Cheaper (priced s.case d) s.shown → Offered s (dispatch (Some d)) PASSED s
     dispatch_declined : {d : m.Dispatch} → ¬ Meets m s.case d → Offered s (dispatch (Some d)) DECLINED s
     dispatch_faulty : Offered s (dispatch None) DECLINED s
     -- the floor of a lawful list is shown if it is higher than the one shown
-    prices-held :
+    prices_held :
         {l : m.Prices} → m.Lawful s.case l → Improves Higher (m.floor_of s.case l) s.floor →
         Offered s (prices (Some l)) HELD (with_floor (m.floor_of s.case l) s)
-    prices-passed :
+    prices_passed :
         {l : m.Prices} → m.Lawful s.case l → ¬ Improves Higher (m.floor_of s.case l) s.floor → Offered s (prices (Some l)) PASSED s
     prices_declined : {l : m.Prices} → ¬ m.Lawful s.case l → Offered s (prices (Some l)) DECLINED s
     prices_faulty : Offered s (prices None) DECLINED s
@@ -49,15 +49,15 @@ module _ {m : Model} where
   pub data Step : Call m → State m → State m → Type 0 where
     manned : {s : State m} {a : ℕ} → s.watch ≡ None → Step (man a) s (watched_by a s)
     -- an offer and a change, counted under its heading
-    offer-counted :
+    offer_counted :
         {s t : State m} {o : Offer m} {k : Heading} {w : Watch} → s.watch ≡ Some w → is_full (total w.counts) ≡ false →
         Offered s o k t → Step (offer o) s (counting k w t)
-    change-counted :
+    change_counted :
         {s t : State m} {x : Option m.Change} {k : Heading} {w : Watch} → s.watch ≡ Some w → is_full (total w.counts) ≡ false →
         ChangeMade s x k t → Step (change x) s (counting k w t)
     -- the same, met by a full watch
     offer_too_many : {s : State m} {o : Offer m} {w : Watch} → s.watch ≡ Some w → is_full (total w.counts) ≡ true → Step (offer o) s s
-    change-too-many :
+    change_too_many :
         {s : State m} {x : Option m.Change} {w : Watch} → s.watch ≡ Some w → is_full (total w.counts) ≡ true → Step (change x) s s
     asked : {s : State m} {q : Question} → MayAsk s q → Step (ask q) s s
     -- the next watch is opened, or the paper names nobody

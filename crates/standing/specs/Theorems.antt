@@ -59,7 +59,7 @@ pub record RefusalsAlterNothing (m : Model) : Type 0 where
       (c : Call m) (s t : State m) (w : Watch) → Step c s t → s.watch ≡ Some w → is_full (total w.counts) ≡ false → Refused s c →
       t ≡ counting DECLINED w s
   -- nothing else raises it
-  pub only-refused :
+  pub only_refused :
       (c : Call m) (s t : State m) (w v : Watch) → Step c s t → s.watch ≡ Some w → t.watch ≡ Some v →
       v.counts.declined ≡ w.counts.declined + 1 → Refused s c
   -- what is met by a full watch leaves everything

@@ -5,10 +5,10 @@ use Rattle.measure.specs.Fraction.{Fraction, whole, ◌≤ᶠ◌}
 use Rattle.measure.proofs.Order.{mul_mono, ≤_trans}
 use Rattle.standing.specs.Model.{Grounds}
 use Rattle.standing.specs.Example.{one_bus, ExampleRun}
-use Rattle.standing.specs.Step.Offered.{dispatch-held, dispatch-passed, dispatch_declined, dispatch_faulty, prices-held, prices_declined}
+use Rattle.standing.specs.Step.Offered.{dispatch_held, dispatch_passed, dispatch_declined, dispatch_faulty, prices_held, prices_declined}
 use Rattle.standing.specs.Step.ChangeMade.{change_taken, change_declined}
 use Rattle.standing.specs.Step.MayAsk.{trial_manned}
-use Rattle.standing.specs.Step.Step.{manned, offer-counted, change-counted, asked, handed_over, hand_over_refused, stood_down}
+use Rattle.standing.specs.Step.Step.{manned, offer_counted, change_counted, asked, handed_over, hand_over_refused, stood_down}
 use Rattle.standing.specs.Run.Run.{new, called}
 use Rattle.standing.proofs.example_runs.Goals as goal
 
@@ -52,18 +52,18 @@ run =
     (called
     (called
     (called (new tt) (manned refl))
-    (offer-counted refl refl (dispatch-held (record { fits = tt; in_fractions = at_most 5 6 (lit≤ tt) }) tt)))
-    (offer-counted refl refl (dispatch-passed (record { fits = tt; in_fractions = at_most 5 9 (lit≤ tt) }) (not_cheaper 9 6 (lit≤ tt)))))
-    (offer-counted refl refl (dispatch_declined (λ k. not_most 5 3 (lit≤ tt) k.in_fractions))))
-    (offer-counted refl refl dispatch_faulty))
-    (offer-counted refl refl (prices-held (lit≤ tt) tt)))
+    (offer_counted refl refl (dispatch_held (record { fits = tt; in_fractions = at_most 5 6 (lit≤ tt) }) tt)))
+    (offer_counted refl refl (dispatch_passed (record { fits = tt; in_fractions = at_most 5 9 (lit≤ tt) }) (not_cheaper 9 6 (lit≤ tt)))))
+    (offer_counted refl refl (dispatch_declined (λ k. not_most 5 3 (lit≤ tt) k.in_fractions))))
+    (offer_counted refl refl dispatch_faulty))
+    (offer_counted refl refl (prices_held (lit≤ tt) tt)))
     (asked (trial_manned refl)))
-    (change-counted refl refl (change_declined refl)))
-    (change-counted refl refl (change_taken refl)))
+    (change_counted refl refl (change_declined refl)))
+    (change_counted refl refl (change_taken refl)))
     (hand_over_refused refl))
     (handed_over refl))
-    (offer-counted refl refl (dispatch-held (record { fits = tt; in_fractions = at_most 8 8 (lit≤ tt) }) tt)))
-    (offer-counted refl refl (prices_declined (not_within 9 8 (lit≤ tt)))))
+    (offer_counted refl refl (dispatch_held (record { fits = tt; in_fractions = at_most 8 8 (lit≤ tt) }) tt)))
+    (offer_counted refl refl (prices_declined (not_within 9 8 (lit≤ tt)))))
     (stood_down refl)
 
 pub returns : goal.returns

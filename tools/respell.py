@@ -1,9 +1,9 @@
 #!/usr/bin/env python3
 """Respells the repository's own definitions and lemmas: types and facts in upper camel case, all other names in snake case.
 
-usage: python3 tools/respell.py            at the top of a checkout that /opt/rattle/port/port.py has just turned
+usage: python3 tools/respell.py [-v]       at the top of a checkout that /opt/rattle/port/port.py has just turned
 
-A dash stays in the name of a lemma where what stands before it is the name of a definition, as in total-none: there it joins two names.
+A dash stays in the name of a lemma where what stands before it is the name of a definition, as in run-append: there it joins two names.
 Names of src/, strings, comments and names of the library stay. It prints the names that would fall together with another, and leaves those.
 """
 

@@ -14,23 +14,23 @@ pub trait Network {
 
 // After any run of calls on a panel of any network, the standing holds.
 pub fn standing_stands<N: Network>()
-    ensures { StandingTheorem N.Network.model }
+    ensures { StandingTheorem N.model }
 {}
 
 // What stands leaves no choice: the same calls lead to the same panel, and write the same sheets.
 pub fn standing_pins<N: Network>()
-    ensures what_stands { PinningTheorem N.Network.model }
-    ensures same_calls { SameCallsTheorem N.Network.model }
+    ensures what_stands { PinningTheorem N.model }
+    ensures same_calls { SameCallsTheorem N.model }
 {}
 
 // What is refused, or met by a full watch, and what is only asked, alters nothing but the count of what was declined.
 pub fn refusals_alter_nothing<N: Network>()
-    ensures { RefusalsAlterNothing N.Network.model }
+    ensures { RefusalsAlterNothing N.model }
 {}
 
 // The shown dispatch, offered again, is passed.
 pub fn reoffered_passes<N: Network>()
-    ensures { ReofferedTheorem N.Network.model }
+    ensures { ReofferedTheorem N.model }
 {}
 
 // A network of one bus has grounds, and a run by hand on its panel comes under every heading.

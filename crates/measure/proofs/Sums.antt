@@ -1,12 +1,12 @@
 -- Sums over tables: term by term, and gathered by row.
-use Rattle.std.proofs.Common.{◌≡◌, ℕ, zero, suc, ◌+◌, ◌*◌, ◌<◌, ◌≤◌, Bool, true, false, T, eqb, List, [], ◌∷◌, length, get_or, take, ℤ, pos, ◌+ℤ◌, ◌-ℤ◌, ◌*ℤ◌, neg_ℤ, ◌≤ℤ◌, sym, refl, ap, ◌∙◌, subst, add-zero, mul-le-mul_right, suc-mul, zero-add, zero-mul, add-one, arith, eqb→eq}
+use Rattle.std.proofs.Common.{◌≡◌, ℕ, zero, suc, ◌+◌, ◌*◌, ◌<◌, ◌≤◌, Bool, true, false, T, eqb, Option, Some, None, List, [], ◌∷◌, length, get_or, take, ℤ, pos, ◌+ℤ◌, ◌-ℤ◌, ◌*ℤ◌, neg_ℤ, ◌≤ℤ◌, sym, refl, ap, ◌∙◌, subst, add-zero, mul-le-mul_right, suc-mul, zero-add, zero-mul, add-one, arith, eqb→eq}
 use native.Mathlib.Decide.{dec_lt}
 use native.Mathlib.Nat.{min-le_left}
 use lib.Dec.{eqb_refl}
 use lib.IntN.{*ℤ-zero, +ℤ_idl, +ℤ_idr}
 use Rattle.std.proofs.lemmas.List.{length-take}
 use Rattle.measure.specs.Range.{Within}
-use Rattle.measure.specs.Rows.{Row, numbered, rows, total, only, All, Stands, HoldsAt, sum_to, Small, row_or, row_value}
+use Rattle.measure.specs.Rows.{Row, numbered, rows, total, only, All, Stands, HoldsAt, sum_to, Small, row_or, row_value, IsSumOf, IsFirstOf, Lowest}
 use Rattle.measure.proofs.Laws.{lin, mul_add}
 
 -- ---- what holds of each
@@ -300,3 +300,35 @@ few_within m f xs n l h =
     let w = rows-within m f xs n h in
     let k = mul-le-mul_right m l in
     (omega (arith, lin, w.0, k), omega (arith, lin, w.1, k))
+
+-- ---- what is given at each number
+-- the sum of n numbers, each within b
+pub sum_of-within : (b : ℕ) (gives : ℕ → ℤ → Type 0) (n : ℕ) (z : ℤ) → ((i : ℕ) (x : ℤ) → i < n → gives i x → Within b x) → IsSumOf gives n z → Within (n * b) z
+unfolding IsSumOf
+sum_of-within b gives zero z h s = rw s (rw zero-mul (omega (arith, lin), omega (arith, lin)))
+sum_of-within b gives (suc n) z h s =
+    let (x, y, k, m, e) = s in
+    let i = sum_of-within b gives n x (λ i x l. h i x (omega arith)) k in
+    let j = h n y (omega arith) m in
+    let p = suc-mul n b in
+    rw e (omega (arith, lin), omega (arith, lin))
+
+-- one number more
+pub sum_of-more : (gives : ℕ → ℤ → Type 0) (n : ℕ) (a b z : ℤ) → IsSumOf gives n a → gives n b → z ≡ a +ℤ b → IsSumOf gives (n + 1) z
+unfolding IsSumOf
+sum_of-more gives n a b z s k e = subst (λ m. IsSumOf gives m z) (sym (add-one n)) (a, b, s, k, e)
+
+-- what is given at each number is f of it: the sum is the sum of f
+pub sum_of-sum_to : (f : ℕ → ℤ) (gives : ℕ → ℤ → Type 0) (n : ℕ) (z : ℤ) → ((i : ℕ) (x : ℤ) → i < n → gives i x → x ≡ f i) → IsSumOf gives n z → z ≡ sum_to f n
+unfolding IsSumOf sum_to
+sum_of-sum_to f gives zero z h s = s
+sum_of-sum_to f gives (suc n) z h s =
+    let i = sum_of-sum_to f gives n s.0 (λ i x l. h i x (omega arith)) s.2 in
+    let j = h n s.1 (omega arith) s.3 in
+    s.4 ∙ (λ k. i k +ℤ j k)
+
+-- what is given at each number is a test of it: the lowest that passes
+pub first_of-lowest : (test : ℕ → Bool) (gives : ℕ → Bool → Type 0) (n : ℕ) (r : Option ℕ) → ((i : ℕ) (b : Bool) → i < n → gives i b → b ≡ test i) → IsFirstOf gives n r → Lowest (λ i. (i < n) × (test i ≡ true)) r
+first_of-lowest test gives n None h f = λ i k. let e = h i false k.0 (f i k.0) in cc
+first_of-lowest test gives n (Some i) h f =
+    ((f.0, sym (h i true f.0 f.1)), λ j l k. let e = h j false k.0 (f.2 j l) in cc)

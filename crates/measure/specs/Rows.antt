@@ -77,3 +77,13 @@ row_value f xs i = row_or (pos 0) f 0 xs i
 -- a test of the row i; it fails past the end
 abbrev pub row_test : {X : Type 0} → (Row X → Bool) → List X → ℕ → Bool
 row_test f xs i = row_or false f 0 xs i
+
+-- z is the sum of what is given at the first n numbers, one number at each
+unfoldable pub IsSumOf : (ℕ → ℤ → Type 0) → ℕ → ℤ → Type 0
+IsSumOf gives zero z = z ≡ pos 0
+IsSumOf gives (suc n) z = (a : ℤ) × (b : ℤ) × IsSumOf gives n a × gives n b × (z ≡ a +ℤ b)
+
+-- the lowest of the first n numbers at which a test answers true, or none where it answers false at each
+abbrev pub IsFirstOf : (ℕ → Bool → Type 0) → ℕ → Option ℕ → Type 0
+IsFirstOf gives n None = (i : ℕ) → i < n → gives i false
+IsFirstOf gives n (Some i) = (i < n) × gives i true × ((j : ℕ) → j < i → gives j false)

@@ -1,6 +1,5 @@
 // Columns of whole numbers, read by row: the powers, angles and prices that a table or a paper gives.
 ghost use Rattle.std.specs.Prelude.{◌≡◌, ℕ, ℤ, pos, slice_index_or};
-ghost use Rattle.measure.specs.Rows.{sum_to, Small};
 
 pub trait Column {
     // the number in each row
@@ -21,22 +20,6 @@ impl<'a> Column for Table<'a> {
     ghost value = { λ t i. slice_index_or t.values.now i (pos 0) };
 
     fn at(&self, row: usize) -> i64 {
-        if row < self.values.len() {
-            self.values[row]
-        } else {
-            0
-        }
+        self.values.get(row).copied().unwrap_or(0)
     }
-}
-
-// The sum of a column's first rows, of which each is small enough that the sum fits.
-pub fn sum<C: Column>(column: &C, count: u8) -> i64
-    requires { Small (C.value column.now) count }
-    ensures { result ≡ sum_to (C.value column.now) count }
-{
-    let mut sum = 0;
-    for row in 0..count {
-        sum += column.at(row as usize);
-    }
-    sum
 }

@@ -2,10 +2,10 @@
 #![tactic(auto)]
 
 pub mod column;
-pub mod limit;
 pub mod measured;
 pub mod price;
 pub mod range;
+pub mod rows;
 
 // A power in watts.
 #[derive(Clone, Copy, PartialEq, Eq, PartialOrd, Ord, Debug)]

@@ -31,7 +31,11 @@ impl<'a, C: Column> Angles<'a, C> {
         if row == 0 {
             return 0;
         }
-        let angle = keep(-ANGLE_LIMIT, ANGLE_LIMIT, self.given.at(row as usize - 1));
+        let angle = keep(
+            -ANGLE_LIMIT,
+            ANGLE_LIMIT,
+            self.given.at(usize::from(row) - 1),
+        );
         only_if(row < self.buses, angle)
     }
 

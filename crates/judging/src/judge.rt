@@ -7,12 +7,12 @@ ghost use Rattle.network.specs.View.{case_of, dispatch_of};
 
 use crate::angles::Angles;
 use crate::balance::Balance;
-use crate::limits::{AngleRange, Differences, Ratings};
+use crate::flows::Flows;
+use crate::limits::angle_beyond;
 use machine::group::total_cost;
 use machine::machine::Machine;
 use measure::Grains;
 use measure::column::Column;
-use measure::limit::first_broken;
 use network::case::{Case, rows_used};
 use network::dispatch::Dispatch;
 use network::refusal::Refusal;
@@ -26,12 +26,10 @@ fn cost<M: Machine, N: Machine, C: Column>(
 {
     let first = case.first.used();
     let second = case.second.used();
-    match total_cost(first, &dispatch.first) {
-        Err(row) => Err(Refusal::NotAllowed(row)),
-        Ok(one) => match total_cost(second, &dispatch.second) {
-            Err(row) => Err(Refusal::NotAllowed(first.len() + row)),
-            Ok(other) => Ok(Grains(one.0 + other.0)),
-        },
+    let one = total_cost(first, &dispatch.first).map_err(Refusal::NotAllowed)?;
+    match total_cost(second, &dispatch.second) {
+        Err(row) => Err(Refusal::NotAllowed(first.len() + row)),
+        Ok(other) => Ok(Grains(one.0 + other.0)),
     }
 }
 
@@ -43,10 +41,7 @@ pub fn judge<M: Machine, N: Machine, C: Column>(
     ensures { Judged M.meaning N.meaning (case_of case.now) (dispatch_of C.value dispatch.now) result }
 {
     let buses = rows_used(case.buses, case.nb);
-    let range = AngleRange {
-        angles: &dispatch.angles,
-    };
-    if let Some(row) = first_broken(&range, buses) {
+    if let Some(row) = angle_beyond(&dispatch.angles, buses) {
         return Err(Refusal::OutOfRange(row));
     }
     let cost = cost(case, dispatch)?;
@@ -60,21 +55,17 @@ pub fn judge<M: Machine, N: Machine, C: Column>(
         second: &dispatch.second,
         angles,
     };
-    if let Some(row) = first_broken(&balance, case.nb) {
+    if let Some(row) = balance.unbalanced() {
         return Err(Refusal::Unbalanced(row));
     }
-    let ratings = Ratings {
+    let flows = Flows {
         branches: case.branches,
         angles,
     };
-    if let Some(row) = first_broken(&ratings, case.nl) {
+    if let Some(row) = flows.overloaded(case.nl) {
         return Err(Refusal::Overloaded(row));
     }
-    let differences = Differences {
-        branches: case.branches,
-        angles,
-    };
-    if let Some(row) = first_broken(&differences, case.nl) {
+    if let Some(row) = flows.overstretched(case.nl) {
         return Err(Refusal::Overstretched(row));
     }
     Ok(cost)

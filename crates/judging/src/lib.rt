@@ -3,5 +3,6 @@
 
 mod angles;
 mod balance;
+mod flows;
 pub mod judge;
 mod limits;

@@ -1,87 +1,76 @@
 // The limits of angles, flows and angle differences, row by row.
-ghost use Rattle.measure.specs.Rows.{row_test};
+ghost use Rattle.std.specs.Prelude.{◌≡◌, ◌<◌, true};
+ghost use Rattle.measure.specs.Rows.{row_test, Lowest};
 ghost use Rattle.judging.specs.Whole.{angle_of, angle_beyond, overloaded, overstretched, overloaded_row, overstretched_row};
-ghost use Rattle.std.specs.Prelude.{◌≡◌};
 
-use crate::angles::Angles;
+use crate::flows::Flows;
 use measure::column::Column;
-use measure::limit::Limit;
 use measure::range::{is_between, is_beyond};
+use measure::rows::first_broken;
 use network::branch::Branch;
 
-// The range of the angles of all buses but the reference.
-#[derive_where(Clone, Copy)]
-pub(crate) struct AngleRange<'a, C> {
-    pub(crate) angles: &'a C,
+// Whether the angle given for the bus in that row is out of range; none is given for the reference.
+fn is_angle_beyond<C: Column>(angles: &C, row: usize) -> bool
+    ensures { result ≡ angle_beyond (C.value angles.now) row }
+{
+    row > 0 && is_beyond(3_200_000, angles.at(row - 1))
 }
 
-impl<'a, C: Column> Limit for AngleRange<'a, C> {
-    ghost broken = { λ s. angle_beyond (C.value s.angles.now) };
-
-    fn is_broken(&self, row: usize) -> bool {
-        if row == 0 {
-            return false;
-        }
-        is_beyond(3_200_000, self.angles.at(row - 1))
-    }
+// The lowest bus row, of the first so many, whose angle is out of range, or none.
+pub(crate) fn angle_beyond<C: Column>(angles: &C, buses: u8) -> Option<usize>
+    ensures { Lowest (λ i. (i < buses) × (angle_beyond (C.value angles.now) i ≡ true)) result }
+{
+    first_broken(buses, |row| is_angle_beyond(angles, row))
 }
 
-// The ratings of branches in service that have one.
-#[derive_where(Clone, Copy)]
-pub(crate) struct Ratings<'a, 'd, C> {
-    pub(crate) branches: &'a [Branch],
-    pub(crate) angles: Angles<'d, C>,
-}
-
-impl<'a, 'd, C: Column> Ratings<'a, 'd, C> {
-    fn is_overloaded(&self, branch: &Branch) -> bool
+impl<'a, 'd, C: Column> Flows<'a, 'd, C> {
+    // Whether the branch is in service and carries more than its rating.
+    fn exceeds_rating(&self, branch: &Branch) -> bool
         ensures { result ≡ overloaded (angle_of self.now.angles.buses (C.value self.now.angles.given.now)) branch.now }
     {
         let rating = branch.rating.0;
         branch.service & (0 < rating) & !is_between(-rating, rating, self.angles.flow(branch))
     }
-}
 
-impl<'a, 'd, C: Column> Limit for Ratings<'a, 'd, C> {
-    ghost broken = { λ s. row_test (overloaded_row (angle_of s.angles.buses (C.value s.angles.given.now))) s.branches.now };
-
-    fn is_broken(&self, row: usize) -> bool {
-        if row < self.branches.len() {
-            self.is_overloaded(&self.branches[row])
-        } else {
-            false
-        }
+    // Whether the branch in that row does.
+    fn is_overloaded(&self, row: usize) -> bool
+        ensures { result ≡ row_test (overloaded_row (angle_of self.now.angles.buses (C.value self.now.angles.given.now))) self.now.branches.now row }
+    {
+        let Some(branch) = self.branches.get(row) else {
+            return false;
+        };
+        self.exceeds_rating(branch)
     }
-}
 
-// The limits of the angle differences of branches in service.
-#[derive_where(Clone, Copy)]
-pub(crate) struct Differences<'a, 'd, C> {
-    pub(crate) branches: &'a [Branch],
-    pub(crate) angles: Angles<'d, C>,
-}
+    // The lowest of the first so many branch rows that does, or none.
+    pub(crate) fn overloaded(&self, count: u8) -> Option<usize>
+        ensures { Lowest (λ i. (i < count) × (row_test (overloaded_row (angle_of self.now.angles.buses (C.value self.now.angles.given.now))) self.now.branches.now i ≡ true)) result }
+    {
+        first_broken(count, |row| self.is_overloaded(row))
+    }
 
-impl<'a, 'd, C: Column> Differences<'a, 'd, C> {
-    fn is_overstretched(&self, branch: &Branch) -> bool
+    // Whether the branch is in service and its angle difference breaks its limits.
+    fn breaks_limits(&self, branch: &Branch) -> bool
         ensures { result ≡ overstretched (angle_of self.now.angles.buses (C.value self.now.angles.given.now)) branch.now }
     {
-        branch.service
-            & !is_between(
-                branch.angmin.0,
-                branch.angmax.0,
-                self.angles.difference(branch),
-            )
+        let difference = self.angles.difference(branch);
+        branch.service & !is_between(branch.angmin.0, branch.angmax.0, difference)
     }
-}
 
-impl<'a, 'd, C: Column> Limit for Differences<'a, 'd, C> {
-    ghost broken = { λ s. row_test (overstretched_row (angle_of s.angles.buses (C.value s.angles.given.now))) s.branches.now };
+    // Whether the branch in that row does.
+    fn is_overstretched(&self, row: usize) -> bool
+        ensures { result ≡ row_test (overstretched_row (angle_of self.now.angles.buses (C.value self.now.angles.given.now))) self.now.branches.now row }
+    {
+        let Some(branch) = self.branches.get(row) else {
+            return false;
+        };
+        self.breaks_limits(branch)
+    }
 
-    fn is_broken(&self, row: usize) -> bool {
-        if row < self.branches.len() {
-            self.is_overstretched(&self.branches[row])
-        } else {
-            false
-        }
+    // The lowest of the first so many branch rows that does, or none.
+    pub(crate) fn overstretched(&self, count: u8) -> Option<usize>
+        ensures { Lowest (λ i. (i < count) × (row_test (overstretched_row (angle_of self.now.angles.buses (C.value self.now.angles.given.now))) self.now.branches.now i ≡ true)) result }
+    {
+        first_broken(count, |row| self.is_overstretched(row))
     }
 }

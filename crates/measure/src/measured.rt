@@ -5,38 +5,71 @@ ghost use Rattle.measure.specs.Range.{Within, kept};
 use crate::column::Column;
 use crate::price::Price;
 use crate::{AnglePrice, Microradians, Watts};
+use std::marker::PhantomData;
+
+// A column whose numbers are all of the measure T.
+#[derive_where(Clone, Copy; C)]
+#[derive(Drop)]
+pub struct Measured<C, T> {
+    pub column: C,
+    measure: PhantomData<T>,
+}
 
 // Powers in watts.
-#[derive(Clone, Copy, Drop)]
-pub struct PowerColumn<C> {
-    pub column: C,
-}
-
-impl<C: Column> PowerColumn<C> {
-    // The power in that row.
-    pub fn at(&self, row: usize) -> Watts
-        ensures { result.0 ≡ C.value self.now.column row }
-    {
-        Watts(self.column.at(row))
-    }
-}
+pub type PowerColumn<C> = Measured<C, Watts>;
 
 // Angles in microradians.
-#[derive(Clone, Copy, Drop)]
-pub struct AngleColumn<C> {
-    pub column: C,
-}
+pub type AngleColumn<C> = Measured<C, Microradians>;
 
-impl<C: Column> AngleColumn<C> {
-    // The angle in that row.
-    pub fn at(&self, row: usize) -> Microradians
-        ensures { result.0 ≡ C.value self.now.column row }
+// Angle prices.
+pub type AnglePriceColumn<C> = Measured<C, AnglePrice>;
+
+impl<C, T> Measured<C, T> {
+    // The column, read in that measure.
+    pub fn new(column: C) -> Measured<C, T>
+        ensures { result.column ≡ column }
     {
-        Microradians(self.column.at(row))
+        Measured {
+            column,
+            measure: PhantomData,
+        }
     }
 }
 
-// Prices in grains per watt-hour.
+impl<C: Column, T: From<i64>> Measured<C, T> {
+    // The number in that row, in the measure.
+    pub fn at(&self, row: usize) -> T
+        ensures { T.from_gives (C.value self.now.column row) result }
+    {
+        T::from(self.column.at(row))
+    }
+}
+
+impl From<i64> for Watts {
+    ghost from_gives = { λ x w. w.0 ≡ x };
+
+    fn from(power: i64) -> Watts {
+        Watts(power)
+    }
+}
+
+impl From<i64> for Microradians {
+    ghost from_gives = { λ x a. a.0 ≡ x };
+
+    fn from(angle: i64) -> Microradians {
+        Microradians(angle)
+    }
+}
+
+impl From<i64> for AnglePrice {
+    ghost from_gives = { λ x q. q.0 ≡ x };
+
+    fn from(price: i64) -> AnglePrice {
+        AnglePrice(price)
+    }
+}
+
+// Prices in grains per watt-hour. Not a measure that any number has: a price keeps its range.
 #[derive(Clone, Copy, Drop)]
 pub struct PriceColumn<C> {
     pub column: C,
@@ -55,20 +88,5 @@ impl<C: Column> PriceColumn<C> {
         ensures { result.value ≡ kept (neg_ℤ (pos 1000000)) (pos 1000000) (C.value self.now.column row) }
     {
         self.at(row).unwrap_or(Price::zero())
-    }
-}
-
-// Angle prices.
-#[derive(Clone, Copy, Drop)]
-pub struct AnglePriceColumn<C> {
-    pub column: C,
-}
-
-impl<C: Column> AnglePriceColumn<C> {
-    // The angle price in that row.
-    pub fn at(&self, row: usize) -> AnglePrice
-        ensures { result.0 ≡ C.value self.now.column row }
-    {
-        AnglePrice(self.column.at(row))
     }
 }

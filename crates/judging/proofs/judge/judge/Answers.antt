@@ -18,12 +18,12 @@ returns-in_err-cost g c =
     rw (p.1, p.2)
     (found.power_found g.M.Machine.meaning g.N.Machine.meaning g.met.M.Machine.lawful g.met.N.Machine.lawful c.args.case.now (dispatch_of g.C.Column.value c.args.dispatch.now) c.rows_used-buses.result c.rows_used-buses.ensures c.in_default.ensures c.in_err-cost.field-0.0 c.in_err-cost.ensures)
 
-pub returns-in-Some-first_broken : goal.returns-in-Some-first_broken
-returns-in-Some-first_broken g c =
-    found.unbalanced_found g.M.Machine.meaning g.N.Machine.meaning g.met.M.Machine.lawful g.met.N.Machine.lawful c.args.case.now (dispatch_of g.C.Column.value c.args.dispatch.now) c.rows_used-buses.result c.rows_used-buses.ensures c.in_default.ensures c.in_ok-cost.ensures.0 c.in-Some-first_broken.row c.in-Some-first_broken.ensures.0
+pub returns-in-Some-unbalanced : goal.returns-in-Some-unbalanced
+returns-in-Some-unbalanced g c =
+    found.unbalanced_found g.M.Machine.meaning g.N.Machine.meaning g.met.M.Machine.lawful g.met.N.Machine.lawful c.args.case.now (dispatch_of g.C.Column.value c.args.dispatch.now) c.rows_used-buses.result c.rows_used-buses.ensures c.in_default.ensures c.in_ok-cost.ensures.0 c.in-Some-unbalanced.row c.in-Some-unbalanced.ensures.0
 
-pub returns-in-Some-first_broken-2 : goal.returns-in-Some-first_broken-2
-returns-in-Some-first_broken-2 g c =
+pub returns-in-Some-overloaded : goal.returns-in-Some-overloaded
+returns-in-Some-overloaded g c =
     let 𝓜 = g.M.Machine.meaning in
     let 𝓝 = g.N.Machine.meaning in
     let h = g.met.M.Machine.lawful in
@@ -34,11 +34,11 @@ returns-in-Some-first_broken-2 g c =
     let e = c.rows_used-buses.ensures in
     let r = c.in_default.ensures in
     let a = c.in_ok-cost.ensures.0 in
-    found.overload_found 𝓜 𝓝 h k v d n e r a c.in-Some-first_broken-2.row
-    (found.balanced 𝓜 𝓝 h k v d n e r a c.in_default-first_broken.ensures) c.in-Some-first_broken-2.ensures.0
+    found.overload_found 𝓜 𝓝 h k v d n e r a c.in-Some-overloaded.row
+    (found.balanced 𝓜 𝓝 h k v d n e r a c.in_default-unbalanced.ensures) c.in-Some-overloaded.ensures.0
 
-pub returns-in-Some-first_broken-3 : goal.returns-in-Some-first_broken-3
-returns-in-Some-first_broken-3 g c =
+pub returns-in-Some-overstretched : goal.returns-in-Some-overstretched
+returns-in-Some-overstretched g c =
     let 𝓜 = g.M.Machine.meaning in
     let 𝓝 = g.N.Machine.meaning in
     let h = g.met.M.Machine.lawful in
@@ -49,9 +49,9 @@ returns-in-Some-first_broken-3 g c =
     let e = c.rows_used-buses.ensures in
     let r = c.in_default.ensures in
     let a = c.in_ok-cost.ensures.0 in
-    found.stretch_found 𝓜 𝓝 h k v d n e r a c.in-Some-first_broken-3.row
-    (found.balanced 𝓜 𝓝 h k v d n e r a c.in_default-first_broken.ensures)
-    (found.rated 𝓜 𝓝 h k v d n e r c.in_default-first_broken-2.ensures) c.in-Some-first_broken-3.ensures.0
+    found.stretch_found 𝓜 𝓝 h k v d n e r a c.in-Some-overstretched.row
+    (found.balanced 𝓜 𝓝 h k v d n e r a c.in_default-unbalanced.ensures)
+    (found.rated 𝓜 𝓝 h k v d n e r c.in_default-overloaded.ensures) c.in-Some-overstretched.ensures.0
 
 pub returns : goal.returns
 returns g c =
@@ -66,6 +66,6 @@ returns g c =
     let r = c.in_default.ensures in
     let a = c.in_ok-cost.ensures.0 in
     found.all_kept 𝓜 𝓝 h k v d n e r a c.in_ok-cost.cost
-    (found.balanced 𝓜 𝓝 h k v d n e r a c.in_default-first_broken.ensures)
-    (found.rated 𝓜 𝓝 h k v d n e r c.in_default-first_broken-2.ensures)
-    (found.limited 𝓜 𝓝 h k v d n e r c.in_default-first_broken-3.ensures) c.in_ok-cost.ensures.1
+    (found.balanced 𝓜 𝓝 h k v d n e r a c.in_default-unbalanced.ensures)
+    (found.rated 𝓜 𝓝 h k v d n e r c.in_default-overloaded.ensures)
+    (found.limited 𝓜 𝓝 h k v d n e r c.in_default-overstretched.ensures) c.in_ok-cost.ensures.1

@@ -3,15 +3,15 @@ use Rattle.std.proofs.lemmas.Int.{to_z-of_z}
 use Rattle.measure.specs.Rows.{only}
 use Rattle.measure.proofs.Sums.{row_is, row_past}
 use Rattle.judging.specs.Whole.{kept_power}
-use Rattle.judging.proofs.balance.InjectionsColumn.at.Goals as goal
+use Rattle.judging.proofs.balance.Injections.given.Goals as goal
 
 pub returns-then-row-self : goal.returns-then-row-self
-returns-then-row-self g c =
+returns-then-row-self g c = sym (row_past (pos 0) _ 0 c.args.self.now.machines.rows.now c.args.row c.if-row-self.true)
+
+pub returns : goal.returns
+returns g c =
     let o = to_z-of_z w64 c.only_if.result (record { sfits = c.only_if.type_inv }) in
     let k = to_z-of_z w64 c.keep-power.result (record { sfits = c.keep-power.type_inv }) in
     let a = to_z-of_z w64 c.at.result (record { sfits = c.at.type_inv }) in
-    row_is (pos 0) _ c.args.self.now.machines.rows.now c.args.row _ c.if-row-self.true
-    (λ x s. o ∙ c.only_if.ensures ∙ ap₂ (λ p z. only (eqb p c.args.self.now.bus) z) c.place.ensures (k ∙ c.keep-power.ensures ∙ ap kept_power (a ∙ c.at.ensures)))
-
-pub returns-else-row-self : goal.returns-else-row-self
-returns-else-row-self g c = sym (row_past (pos 0) _ 0 c.args.self.now.machines.rows.now c.args.row c.if-row-self.false)
+    row_is (pos 0) _ c.args.self.now.machines.rows.now c.args.row _ c.if-row-self.false
+    (λ x s. o ∙ c.only_if.ensures ∙ ap₂ (λ p z. only (eqb p c.args.bus) z) (c.from.ensures ∙ c.place.ensures) (k ∙ c.keep-power.ensures ∙ ap kept_power (a ∙ c.at.ensures)))

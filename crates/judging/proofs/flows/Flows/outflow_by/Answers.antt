@@ -1,10 +1,10 @@
-use Rattle.std.proofs.Common.{eqb, ap, ◌∙◌, arith, w64}
+use Rattle.std.proofs.Common.{eqb, ap₂, ◌∙◌, arith, w64}
 use borrow.Author.Differences.{ints}
 use Rattle.std.proofs.lemmas.Int.{to_z-of_z}
 use Rattle.measure.specs.Rows.{only}
 use Rattle.judging.specs.Whole.{angle_of}
 use Rattle.judging.proofs.Whole.{outflow_within}
-use Rattle.judging.proofs.balance.Outflows.by.Goals as goal
+use Rattle.judging.proofs.flows.Flows.outflow_by.Goals as goal
 
 pub overflow_sub-result : goal.overflow_sub-result
 overflow_sub-result g c =
@@ -12,9 +12,9 @@ overflow_sub-result g c =
     let b = c.args.branch.now in
     let θ = angle_of s.angles.buses (g.C.Column.value s.angles.given.now) in
     let f = to_z-of_z w64 c.flow-flow.result (record { sfits = c.flow-flow.type_inv }) ∙ c.flow-flow.ensures in
-    let l = c.only_if-leaving.ensures ∙ ap (only (eqb b.ends.from s.bus)) f in
-    let a = c.only_if-arriving.ensures ∙ ap (only (eqb b.ends.to s.bus)) f in
-    let w = outflow_within s.angles.buses (g.C.Column.value s.angles.given.now) b s.bus in
+    let l = c.only_if-leaving.ensures ∙ ap₂ (λ n z. only (eqb n c.args.bus) z) c.from.ensures f in
+    let a = c.only_if-arriving.ensures ∙ ap₂ (λ n z. only (eqb n c.args.bus) z) c.from-2.ensures f in
+    let w = outflow_within s.angles.buses (g.C.Column.value s.angles.given.now) b c.args.bus in
     let x = c.only_if-leaving.type_inv in
     let y = c.only_if-arriving.type_inv in
     omega (arith, ints)
@@ -25,9 +25,9 @@ returns g c =
     let b = c.args.branch.now in
     let θ = angle_of s.angles.buses (g.C.Column.value s.angles.given.now) in
     let f = to_z-of_z w64 c.flow-flow.result (record { sfits = c.flow-flow.type_inv }) ∙ c.flow-flow.ensures in
-    let l = c.only_if-leaving.ensures ∙ ap (only (eqb b.ends.from s.bus)) f in
-    let a = c.only_if-arriving.ensures ∙ ap (only (eqb b.ends.to s.bus)) f in
-    let w = outflow_within s.angles.buses (g.C.Column.value s.angles.given.now) b s.bus in
+    let l = c.only_if-leaving.ensures ∙ ap₂ (λ n z. only (eqb n c.args.bus) z) c.from.ensures f in
+    let a = c.only_if-arriving.ensures ∙ ap₂ (λ n z. only (eqb n c.args.bus) z) c.from-2.ensures f in
+    let w = outflow_within s.angles.buses (g.C.Column.value s.angles.given.now) b c.args.bus in
     let x = c.only_if-leaving.type_inv in
     let y = c.only_if-arriving.type_inv in
     omega (arith, ints)

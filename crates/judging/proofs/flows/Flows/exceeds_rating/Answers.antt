@@ -3,7 +3,7 @@ use borrow.Author.Differences.{ints}
 use lib.Signed.{lt_z}
 use Rattle.std.proofs.lemmas.Int.{to_z-of_z}
 use Rattle.measure.specs.Range.{between}
-use Rattle.judging.proofs.limits.Ratings.is_overloaded.Goals as goal
+use Rattle.judging.proofs.flows.Flows.exceeds_rating.Goals as goal
 
 -- a test of two numbers and their opposite, each equal to another
 same_test : (s t : _) (a b f a' n' f' : ℤ) → a ≡ a' → b ≡ n' → f ≡ f' → t ≡ between b a f → (s && lt_z (pos 0) a && not t) ≡ (s && lt_z (pos 0) a' && not (between n' a' f'))

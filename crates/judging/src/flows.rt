@@ -1,0 +1,48 @@
+// What leaves a bus by the branches.
+ghost use Rattle.std.specs.Prelude.{◌≡◌, take};
+ghost use Rattle.measure.specs.Range.{Within};
+ghost use Rattle.measure.specs.Rows.{rows, total, row_value};
+ghost use Rattle.judging.specs.Whole.{angle_of, outflow_of, outflow_row};
+
+use crate::angles::Angles;
+use measure::column::Column;
+use measure::range::only_if;
+use measure::rows::sum;
+use network::branch::Branch;
+
+// The branches of a case, and the angles at its buses.
+#[derive_where(Clone, Copy)]
+pub(crate) struct Flows<'a, 'd, C> {
+    pub(crate) branches: &'a [Branch],
+    pub(crate) angles: Angles<'d, C>,
+}
+
+impl<'a, 'd, C: Column> Flows<'a, 'd, C> {
+    // What leaves the bus by that branch, less what arrives.
+    fn outflow_by(&self, branch: &Branch, bus: usize) -> i64
+        ensures { result ≡ outflow_of (angle_of self.now.angles.buses (C.value self.now.angles.given.now)) bus branch.now }
+    {
+        let flow = self.angles.flow(branch);
+        let leaving = only_if(usize::from(branch.ends.from) == bus, flow);
+        let arriving = only_if(usize::from(branch.ends.to) == bus, flow);
+        leaving - arriving
+    }
+
+    // What leaves the bus by the branch in that row, less what arrives; 0 past the last row.
+    fn outflow_in(&self, row: usize, bus: usize) -> i64
+        ensures { result ≡ row_value (outflow_row (angle_of self.now.angles.buses (C.value self.now.angles.given.now)) bus) self.now.branches.now row }
+    {
+        let Some(branch) = self.branches.get(row) else {
+            return 0;
+        };
+        self.outflow_by(branch, bus)
+    }
+
+    // What leaves the bus by the first so many branches, less what arrives.
+    pub(crate) fn outflow(&self, bus: usize, count: u8) -> i64
+        ensures small { Within 4080000000000000 result }
+        ensures exact { result ≡ total (outflow_row (angle_of self.now.angles.buses (C.value self.now.angles.given.now)) bus) (rows (take count self.now.branches.now)) }
+    {
+        sum(count, |row| self.outflow_in(row, bus))
+    }
+}

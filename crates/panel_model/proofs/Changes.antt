@@ -1,5 +1,6 @@
 -- A change leaves a well-formed case.
 use Rattle.std.proofs.Common.{◌≡◌, ℕ, ◌+◌, ◌≤◌, Bool, List, length, Some, None, Option, sym, refl, ap, ◌∙◌, subst}
+use Rattle.std.proofs.lemmas.Option.{none-some, same_Some}
 use Rattle.std.specs.Option.{option_map}
 use Rattle.measure.specs.Range.{Within}
 use Rattle.measure.specs.Rows.{Stands}
@@ -13,7 +14,6 @@ use Rattle.network.specs.declared.branch.Ends.{Ends}
 use Rattle.network.specs.Model.{Case, Group}
 use Rattle.build.specs.Build.{WellFormed, TheRow}
 use Rattle.pricing.specs.Outage.{marked}
-use Rattle.standing.proofs.Options.{some_injective, none-some}
 use Rattle.panel_model.specs.Change.{Change, changed, demanding, with_row, with_buses, with_branches, row_where, is_bus, is_branch}
 use Rattle.panel_model.specs.Change.Change.{demand, mark}
 use Rattle.panel_model.specs.Network.{SizedCase, in_place, WellSized}
@@ -91,8 +91,8 @@ module _ {M N : Type 0} (𝓜 : Meaning M) (𝓝 : Meaning N) (s : SizedCase M N
   }
 
   mapped_sized : (f : ℕ → Case M N) → ((i : ℕ) → WellSized 𝓜 𝓝 (in_place s (f i))) → (o : Option ℕ) (k : SizedCase M N) → option_map (in_place s) (option_map f o) ≡ Some k → WellSized 𝓜 𝓝 k
-  mapped_sized f all None k e = absurd (none-some refl e)
-  mapped_sized f all (Some i) k e = subst (WellSized 𝓜 𝓝) (some_injective e) (all i)
+  mapped_sized f all None k e = absurd (none-some _ e)
+  mapped_sized f all (Some i) k e = subst (WellSized 𝓜 𝓝) (same_Some _ _ e) (all i)
 
   pub changed_sized : (x : Change) (k : SizedCase M N) → option_map (in_place s) (changed s.case x) ≡ Some k → WellSized 𝓜 𝓝 k
   changed_sized (demand bus watts ok) k e =

@@ -2,7 +2,7 @@
 use Rattle.machine.specs.Meaning.{Meaning, Keeps}
 use Rattle.network.proofs.Duality.{floor_stands}
 use Rattle.network.proofs.Counted.{counted-covers}
-use Rattle.standing.specs.Model.{Model, Grounds}
+use Rattle.standing.specs.Model.{Grounds}
 use Rattle.panel_model.specs.Network.{network, by_rows, list_by_rows}
 use Rattle.panel_model.proofs.Changes.{changed_sized}
 

@@ -1,5 +1,5 @@
 -- Changes of a case: another demand at a bus, another service mark on a branch.
-use Rattle.std.specs.Prelude.{ℕ, zero, suc, Bool, true, false, cond, ◌&&◌, List, [], ◌∷◌, ℤ, Some, None, Option, ◌==◌}
+use Rattle.std.specs.Prelude.{ℕ, zero, suc, Bool, cond, ◌&&◌, List, [], ◌∷◌, Some, None, Option, ◌==◌}
 use Rattle.std.specs.Option.{option_map}
 use Rattle.measure.specs.Range.{Within}
 use Rattle.measure.specs.declared.Watts.{Watts}

@@ -1,5 +1,5 @@
 -- The network of the DC model, as a panel stands on it: cases of two kinds of machine, and dispatches and price lists as papers give them.
-use Rattle.std.specs.Prelude.{◌≡◌, ℕ, ◌+◌, List, map, length, take, drop, ℤ, pos, slice_index_or}
+use Rattle.std.specs.Prelude.{◌≡◌, ℕ, ◌+◌, map, length, take, drop, pos, slice_index_or}
 use Rattle.std.specs.Option.{option_map}
 use Rattle.machine.specs.Meaning.{Meaning}
 use Rattle.network.specs.Model.{Case, WholeDispatch, in_fractions, Meets, true_cost, counted}

@@ -1,5 +1,8 @@
 -- The papers of a list of words are the one way to cut it after each end word.
-use Rattle.std.proofs.Common.{◌≡◌, ℕ, ◌+◌, ◌<◌, Bool, true, false, cond, ◌⊎◌, List, [], ◌∷◌, ◌++◌, length, get_or, take, drop, sym, refl, ap, ◌∙◌, inl, inr, append_assoc, append-nil, arith}
+use Rattle.std.proofs.Common.{◌≡◌, ℕ, suc, ◌+◌, ◌<◌, Bool, true, false, cond, ◌⊎◌, List, [], ◌∷◌, ◌++◌, length, get_or, take, drop, sym, refl, ap, ◌∙◌, inl, inr, append_assoc, append-nil, arith, subst, not, Some, None, ltb, ltb-true, ltb-false}
+use Rattle.std.proofs.lemmas.List.Sums.{passes_at_first}
+use Rattle.std.specs.List.{position, position_or_len}
+use Rattle.std.specs.Option.{option_map_or}
 use Rattle.std.proofs.lemmas.List.{take-append-drop, take_more, drop_more, take_all, drop_all}
 use Rattle.paper_file.specs.Papers.{is_end, with_word, papers, FirstPaper}
 use Rattle.paper_file.specs.Laws.{joined, NoEnd, Ended, Unended, Cut, NoEmpty, PapersCut}
@@ -8,9 +11,15 @@ use Rattle.paper_file.specs.Laws.{joined, NoEnd, Ended, Unended, Cut, NoEmpty, P
 abbrev paper_step : Bool → ℕ → List (List ℕ) → List (List ℕ)
 paper_step ends word ps = cond ends ((word ∷ []) ∷ ps) (with_word word ps)
 
-pub no_end_more : (words : List ℕ) (word : ℕ) → NoEnd words → is_end word ≡ false → NoEnd (words ++ (word ∷ []))
-no_end_more [] word h e = (e, tt)
-no_end_more (x ∷ xs) word h e = (h.0, no_end_more xs word h.1 e)
+no_end_before : (words : List ℕ) → NoEnd (take (position_or_len is_end words) words)
+no_end_before [] = tt
+no_end_before (x ∷ xs) = go (is_end x) refl (no_end_before xs)
+  where
+    go : (b : Bool) → is_end x ≡ b → NoEnd (take (position_or_len is_end xs) xs) → NoEnd (take (cond (not b) (1 + position_or_len is_end xs) 0) (x ∷ xs))
+    go true e h = tt
+    go false e h =
+        let more : suc (position_or_len is_end xs) ≡ 1 + position_or_len is_end xs = omega arith in
+        subst (λ n. NoEnd (take n (x ∷ xs))) more (e, h)
 
 pub papers-ended : (front : List ℕ) (end : ℕ) (rest : List ℕ) → NoEnd front → is_end end ≡ true → papers (front ++ (end ∷ rest)) ≡ (front ++ (end ∷ [])) ∷ papers rest
 papers-ended [] end rest h e = ap (λ b. paper_step b end (papers rest)) e
@@ -22,7 +31,7 @@ papers-unended (x ∷ []) some h = ap (λ b. paper_step b x []) h.0
 papers-unended (x ∷ y ∷ ys) some h = ap (λ b. paper_step b x (papers (y ∷ ys))) h.0 ∙ ap (with_word x) (papers-unended (y ∷ ys) (omega arith) h.1)
 
 -- the first n words, where an end word is the first at n, or no word is one
-pub first_ended : (words : List ℕ) (i : ℕ) → i < length words → NoEnd (take i words) → is_end (get_or words i 0) ≡ true → FirstPaper words (i + 1)
+first_ended : (words : List ℕ) (i : ℕ) → i < length words → NoEnd (take i words) → is_end (get_or words i 0) ≡ true → FirstPaper words (i + 1)
 first_ended words i h none e = record {
   within = omega arith;
   some = λ _. omega arith;
@@ -32,12 +41,22 @@ first_ended words i h none e = record {
       ∙ ap (λ p. p ∷ papers (drop (i + 1) words)) (sym (take_more words i 0 h));
 }
 
-pub first-unended : (words : List ℕ) → NoEnd words → FirstPaper words (length words)
+first-unended : (words : List ℕ) → NoEnd words → FirstPaper words (length words)
 first-unended words none = record {
   within = omega arith;
   some = λ h. h;
   first = λ h. papers-unended words h none ∙ (λ i. sym (take_all (length words) words (omega arith)) i ∷ papers (sym (drop_all (length words) words (omega arith)) i));
 }
+
+pub first_paper : (words : List ℕ) → FirstPaper words (option_map_or (λ i. i + 1) (position is_end words) (length words))
+first_paper words = go (ltb (position_or_len is_end words) (length words)) refl
+  where
+    go : (b : Bool) → ltb (position_or_len is_end words) (length words) ≡ b
+        → FirstPaper words (option_map_or (λ i. i + 1) (cond b (Some (position_or_len is_end words)) None) (length words))
+    go true e =
+        let h = ltb-true _ _ e in
+        first_ended words (position_or_len is_end words) h (no_end_before words) (passes_at_first is_end words 0 h)
+    go false e = first-unended words (subst NoEnd (take_all _ words (ltb-false _ _ e)) (no_end_before words))
 
 joins_step : (b : Bool) (word : ℕ) (ps : List (List ℕ)) → joined (paper_step b word ps) ≡ word ∷ joined ps
 joins_step true word ps = refl

@@ -1,7 +1,6 @@
 -- The words in a list of bytes, one for each four.
-use Rattle.std.proofs.Common.{◌≡◌, ℕ, suc, ◌-◌, ◌/◌, min, List, [], ◌∷◌, map, length, take, sym, refl, ap, ◌∙◌, arith}
-use native.Mathlib.Decide.{dec_le}
-use Rattle.std.proofs.lemmas.List.{take_all}
+use Rattle.std.proofs.Common.{◌≡◌, ℕ, suc, ◌-◌, ◌/◌, min, List, [], ◌∷◌, map, length, take, refl, ap, ◌∙◌, arith}
+use Rattle.std.proofs.lemmas.Grind.{common_steps}
 use Rattle.std.specs.Simd.{first_chunks}
 use Rattle.word.specs.Word.{of_bytes}
 use Rattle.paper_file.specs.Words.{words_in}
@@ -17,8 +16,4 @@ words_of_fours (a ∷ b ∷ c ∷ d ∷ bytes) =
 
 -- as many bytes as there are, and at most n
 pub take_at_most : (m n : ℕ) (bytes : List ℕ) → m ≡ min (length bytes) n → take (m - 0) bytes ≡ take n bytes
-take_at_most m n bytes e =
-    elim (dec_le (length bytes) n) [
-      | yes h ↦ take_all (m - 0) bytes (omega arith) ∙ sym (take_all n bytes h)
-      | no h ↦ let same : m - 0 ≡ n = omega arith in ap (λ k. take k bytes) same
-    ]
+take_at_most m n bytes e = grind (arith, common_steps)

@@ -18,18 +18,12 @@ pub enum Call {
 pub fn call_of(words: &[u32]) -> Call
     ensures { result ≡ call_for words.now }
 {
-    let [first, ..] = words else {
-        return Call::Dispatch;
-    };
-    if kind_of(*first) != Kind::Head {
-        return Call::Dispatch;
-    }
-    match payload(*first) {
-        3 => Call::Prices,
-        4 => Call::Demand,
-        5 => Call::Mark,
-        6 => Call::Trial,
-        7 => Call::HandOver,
+    match words.first().map(|word| (kind_of(*word), payload(*word))) {
+        Some((Kind::Head, 3)) => Call::Prices,
+        Some((Kind::Head, 4)) => Call::Demand,
+        Some((Kind::Head, 5)) => Call::Mark,
+        Some((Kind::Head, 6)) => Call::Trial,
+        Some((Kind::Head, 7)) => Call::HandOver,
         _ => Call::Dispatch,
     }
 }

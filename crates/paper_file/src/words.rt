@@ -14,9 +14,5 @@ pub fn words_of(heap: Global, bytes: &[u8]) -> Result<Vec<u32>, AllocError>
 {
     let read = &bytes[0..bytes.len().min(LIMIT)];
     let (fours, _) = read.as_chunks::<4>();
-    let mut words = Vec::new(heap);
-    for four in fours {
-        words.push(file_word(*four))?;
-    }
-    Ok(words)
+    fours.iter().map(|four| file_word(*four)).collect(heap)
 }

@@ -1,7 +1,9 @@
 -- A sheet's figures read again from its bytes.
-use Rattle.std.proofs.Common.{◌≡◌, ℕ, zero, suc, ◌-◌, ◌^◌, ◌<◌, false, cond, eqb, List, [], ◌∷◌, ◌++◌, length, replicate, ℤ, pos, negsuc, neg_ℤ, Some, None, codes, decimal, Option, sym, refl, ap, ◌∙◌, append_assoc, append-nil, arith, ne_eqb}
+use Rattle.std.proofs.Common.{◌≡◌, ℕ, zero, suc, ◌-◌, ◌^◌, ◌<◌, false, cond, eqb, List, [], ◌∷◌, ◌++◌, length, replicate, ℤ, pos, negsuc, neg_ℤ, Some, None, codes, decimal, Option, sym, refl, ap, ◌∙◌, append_assoc, append-nil, arith, ne_eqb, All}
 use Rattle.std.proofs.lemmas.Fmt.{decimal_is_IsNumeral}
-use Rattle.std.proofs.lemmas.Str.Parse.{digit_from_value}
+use Rattle.std.proofs.lemmas.Str.Parse.{digit_from_value, digit_at}
+use Rattle.std.proofs.lemmas.List.Elements.{All-nil, All-cons, All-head, All-tail, All-append, All-from_get_or, All-from_recursion}
+use Rattle.std.specs.List.{AllByRecursion}
 use Rattle.std.specs.Str.Parse.{digits_value, AllDigits}
 use Rattle.measure.specs.declared.Grains.{Grains}
 use Rattle.sheet.specs.declared.sheet.Sheet.{Sheet}
@@ -11,45 +13,35 @@ use Rattle.sheet.specs.Reading.{lines_after, lines_in, read_minus, read_figure, 
 
 -- no byte of the text ends a line
 abbrev pub InLine : List ℕ → Type 0
-InLine [] = Unit {0}
-InLine (b ∷ bs) = (10 < b) × InLine bs
-
-abbrev pub InLines : List (List ℕ) → Type 0
-InLines [] = Unit {0}
-InLines (l ∷ ls) = InLine l × InLines ls
-
-in_line_append : (a b : List ℕ) → InLine a → InLine b → InLine (a ++ b)
-in_line_append [] b p q = q
-in_line_append (x ∷ xs) b p q = (p.0, in_line_append xs b p.1 q)
+InLine l = All (λ b. 10 < b) l
 
 in_line_digits : (ds : List ℕ) → AllDigits 10 ds → InLine ds
-in_line_digits [] d = tt
-in_line_digits (c ∷ cs) d = (omega (arith, digit_from_value c d.0), in_line_digits cs d.1)
+in_line_digits ds d = All-from_get_or (λ b. 10 < b) ds 0 (λ i h. omega (arith, digit_at ds i d h))
 
 in_line_decimal : (n : ℕ) → n < 2 ^ 64 → InLine (decimal n)
 in_line_decimal n h = in_line_digits (decimal n) (decimal_is_IsNumeral n h).0.1
 
 in_line_shown : (figure : Option ℤ) → Short figure → InLine (shown figure)
-in_line_shown None s = (omega arith, tt)
+in_line_shown None s = All-cons (λ b. 10 < b) 45 [] (omega arith) (All-nil (λ b. 10 < b))
 in_line_shown (Some (pos n)) s = in_line_decimal n s
-in_line_shown (Some (negsuc n)) s = (omega arith, in_line_decimal (suc n) s)
+in_line_shown (Some (negsuc n)) s = All-cons (λ b. 10 < b) 45 (decimal (suc n)) (omega arith) (in_line_decimal (suc n) s)
 
 line-cut : (read l rest : List ℕ) → InLine l → lines_after read (l ++ (10 ∷ rest)) ≡ (read ++ l) ∷ lines_in rest
 line-cut read [] rest p = ap (λ r. r ∷ lines_in rest) (sym (append-nil read))
 line-cut read (b ∷ bs) rest p =
-    let other : eqb b 10 ≡ false = ne_eqb b 10 (omega arith) in
+    let other : eqb b 10 ≡ false = ne_eqb b 10 (omega (arith, All-head (λ c. 10 < c) b bs p)) in
     ap (λ t. cond t (read ∷ lines_in (bs ++ (10 ∷ rest))) (lines_after (read ++ (b ∷ [])) (bs ++ (10 ∷ rest)))) other
-    ∙ line-cut (read ++ (b ∷ [])) bs rest p.1
+    ∙ line-cut (read ++ (b ∷ [])) bs rest (All-tail (λ c. 10 < c) b bs p)
     ∙ ap (λ r. r ∷ lines_in rest) (append_assoc read (b ∷ []) bs)
 
 no_line : (read : List ℕ) (n : ℕ) → lines_after read (replicate n 32) ≡ []
 no_line read zero = refl
 no_line read (suc n) = no_line (read ++ (32 ∷ [])) n
 
-lines_cut : (ls : List (List ℕ)) (n : ℕ) → InLines ls → lines_in (ended ls ++ replicate n 32) ≡ ls
+lines_cut : (ls : List (List ℕ)) (n : ℕ) → All InLine ls → lines_in (ended ls ++ replicate n 32) ≡ ls
 lines_cut [] n p = no_line [] n
 lines_cut (l ∷ ls) n p =
-    ap (lines_after []) (append_assoc l (10 ∷ ended ls) (replicate n 32)) ∙ line-cut [] l (ended ls ++ replicate n 32) p.0 ∙ ap (λ r. l ∷ r) (lines_cut ls n p.1)
+    ap (lines_after []) (append_assoc l (10 ∷ ended ls) (replicate n 32)) ∙ line-cut [] l (ended ls ++ replicate n 32) (All-head InLine l ls p) ∙ ap (λ r. l ∷ r) (lines_cut ls n (All-tail InLine l ls p))
 
 read_plain : (ds : List ℕ) → 0 < length ds → AllDigits 10 ds → read_figure ds ≡ Some (pos (digits_value 10 ds))
 read_plain [] some d = absurd (omega arith)
@@ -81,11 +73,12 @@ pub record Shorts (s : Sheet) : Type 0 where
   pub floor : Short (amount_of s.floor)
   pub gap : Short (gap_of s.cost s.floor)
 
-in_line_of : (word : List ℕ) (figure : Option ℤ) → InLine word → Short figure → InLine (line_of word figure)
-in_line_of word figure w s = in_line_append word (32 ∷ shown figure) w (omega arith, in_line_shown figure s)
+in_line_of : (word : List ℕ) (figure : Option ℤ) → AllByRecursion (λ b. 10 < b) word → Short figure → InLine (line_of word figure)
+in_line_of word figure w s =
+    All-append (λ b. 10 < b) word (32 ∷ shown figure) (All-from_recursion (λ b. 10 < b) word w) (All-cons (λ b. 10 < b) 32 (shown figure) (omega arith) (in_line_shown figure s))
 
-in_lines_of : (s : Sheet) → Shorts s → InLines (lines_of s)
-in_lines_of s h = (
+in_lines_of : (s : Sheet) → Shorts s → All InLine (lines_of s)
+in_lines_of s h = All-from_recursion InLine (lines_of s) (
   in_line_of (codes "WATCH") (Some (pos s.attendant)) (omega arith) h.attendant,
   (
     in_line_of (codes "HELD") (Some (pos s.held)) (omega arith) h.held,

@@ -9,8 +9,5 @@ pub fn gap(cost: Option<Grains>, floor: Option<Grains>) -> Option<i128>
     ensures value { result ≡ gap_of cost floor }
     ensures short { Short result }
 {
-    match (cost, floor) {
-        (Some(Grains(x)), Some(Grains(y))) => Some(i128::from(x) - i128::from(y)),
-        _ => None,
-    }
+    Some(i128::from(cost?.0) - i128::from(floor?.0))
 }

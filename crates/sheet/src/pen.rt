@@ -1,12 +1,14 @@
 // Writing on a page.
-ghost use Rattle.std.specs.Prelude.{◌≡◌, ◌+◌, ◌<◌, ◌≤◌, [], ◌∷◌, ◌++◌, length, decimal};
-ghost use Rattle.sheet.specs.Figure.{Short, line_of, shown};
+ghost use Rattle.std.specs.Prelude.{◌≡◌, ◌+◌, ◌≤◌, [], ◌∷◌, ◌++◌, length};
+ghost use Rattle.sheet.specs.Figure.{line_of, shown};
 ghost use Rattle.sheet.specs.Page.{text_of};
 
+use crate::figure::Figure;
 use crate::page::Page;
+use itoa::Buffer;
 
 // What stands for a figure that is missing.
-const MISSING: u8 = b'-';
+const MISSING: &[u8] = b"-";
 
 impl Page {
     // A page with no text.
@@ -26,62 +28,38 @@ impl Page {
         &self.bytes[0..self.len]
     }
 
-    fn push(&mut self, byte: u8)
-        requires { self.old.len < 256 }
-        ensures text { text_of self.new ≡ text_of self.old ++ (byte ∷ []) }
-        ensures len { self.new.len ≡ self.old.len + 1 }
-    {
-        self.bytes[self.len] = byte;
-        self.len += 1;
-    }
-
     fn push_all(&mut self, bytes: &[u8])
         requires { self.old.len + length bytes.now ≤ 256 }
         ensures text { text_of self.new ≡ text_of self.old ++ bytes.now }
         ensures len { self.new.len ≡ self.old.len + length bytes.now }
     {
-        for byte in bytes {
-            self.push(*byte);
-        }
-    }
-
-    // The digits of n: those of a tenth of it, and then its last.
-    fn push_decimal(&mut self, n: u64)
-        requires { self.old.len + length (decimal n) ≤ 256 }
-        ensures text { text_of self.new ≡ text_of self.old ++ decimal n }
-        ensures len { self.new.len ≡ self.old.len + length (decimal n) }
-    {
-        if n >= 10 {
-            self.push_decimal(n / 10);
-        }
-        self.push(b'0' + (n % 10) as u8);
+        let end = self.len + bytes.len();
+        self.bytes[self.len..end].copy_from_slice(bytes);
+        self.len = end;
     }
 
     // The figure in decimal.
-    fn push_figure(&mut self, figure: Option<i128>)
-        requires { (Short figure) × (self.old.len + 21 ≤ 256) }
-        ensures text { text_of self.new ≡ text_of self.old ++ shown figure }
-        ensures len { self.new.len ≡ self.old.len + length (shown figure) }
+    fn push_figure(&mut self, figure: Figure)
+        requires { self.old.len + length (shown figure.value) ≤ 256 }
+        ensures text { text_of self.new ≡ text_of self.old ++ shown figure.value }
+        ensures len { self.new.len ≡ self.old.len + length (shown figure.value) }
     {
-        let Some(z) = figure else {
-            self.push(MISSING);
-            return;
-        };
-        if z < 0 {
-            self.push(b'-');
+        match figure.value {
+            Some(value) => self.push_all(Buffer::new().format(value).as_bytes()),
+            None => self.push_all(MISSING),
         }
-        self.push_decimal(z.unsigned_abs() as u64);
     }
 
     // A line: the word, a space, the figure, and a byte 10.
-    pub(crate) fn push_line(&mut self, word: &[u8], figure: Option<i128>)
-        requires { (Short figure) × (self.old.len + length word.now + 23 ≤ 256) }
-        ensures text { text_of self.new ≡ text_of self.old ++ (line_of word.now figure ++ (10 ∷ [])) }
+    #[tactic(auto, using(crate::proofs::Texts::shown_short))]
+    pub(crate) fn push_line(&mut self, word: &[u8], figure: Figure)
+        requires { self.old.len + length word.now + 23 ≤ 256 }
+        ensures text { text_of self.new ≡ text_of self.old ++ (line_of word.now figure.value ++ (10 ∷ [])) }
         ensures len { self.new.len ≤ self.old.len + length word.now + 23 }
     {
         self.push_all(word);
-        self.push(b' ');
+        self.push_all(b" ");
         self.push_figure(figure);
-        self.push(b'\n');
+        self.push_all(b"\n");
     }
 }

@@ -5,7 +5,7 @@ ghost use Rattle.sheet.specs.Lines.{sheet_lines, sheet_bytes};
 ghost use Rattle.sheet.specs.Page.{text_of};
 ghost use Rattle.sheet.specs.Reading.{read_sheet, read_gap};
 
-use crate::figure::{amount, count};
+use crate::figure::{Figure, amount, count};
 use crate::gap::gap;
 use crate::page::Page;
 use measure::Grains;
@@ -32,14 +32,20 @@ impl Sheet {
         ensures gap { read_gap result.bytes ≡ gap_of self.now.cost self.now.floor }
     {
         let mut page = Page::blank();
-        page.push_line(b"WATCH", count(self.attendant as u32));
+        // A call for each line: a loop over a table of words and figures would have as many.
+        page.push_line(b"WATCH", count(u32::from(self.attendant)));
         page.push_line(b"HELD", count(self.held));
         page.push_line(b"PASSED", count(self.passed));
         page.push_line(b"DECLINED", count(self.declined));
         page.push_line(b"CHANGES", count(self.changes));
         page.push_line(b"COST", amount(self.cost));
         page.push_line(b"FLOOR", amount(self.floor));
-        page.push_line(b"GAP", gap(self.cost, self.floor));
+        page.push_line(
+            b"GAP",
+            Figure {
+                value: gap(self.cost, self.floor),
+            },
+        );
         page
     }
 }

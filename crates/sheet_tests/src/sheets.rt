@@ -2,6 +2,7 @@
 use measure::Grains;
 use sheet::gap::gap;
 use sheet::sheet::Sheet;
+use std::iter::repeat;
 use std::process::Abort;
 
 const QUIET: Sheet = Sheet {
@@ -18,9 +19,8 @@ const QUIET: Sheet = Sheet {
 fn check_page(rt: &impl Abort, sheet: Sheet, lines: &[u8]) {
     let page = sheet.write();
     assert_eq!(rt; page.text(), lines);
-    for (i, byte) in page.bytes.iter().enumerate() {
-        let due = if i < lines.len() { lines[i] } else { b' ' };
-        assert_eq!(rt; *byte, due);
+    for (byte, due) in page.bytes.iter().zip(lines.iter().chain(repeat(&b' '))) {
+        assert_eq!(rt; byte, due);
     }
 }
 

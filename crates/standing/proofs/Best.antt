@@ -1,7 +1,7 @@
 -- The best of what was offered since the last taken change.
-use Rattle.std.proofs.Common.{◌≡◌, Bool, true, false, not, T, ◌∷◌, ℤ, ◌≤ℤ◌, ◌<ℤ◌, Some, None, Option, sym, refl, subst, arith}
-use lib.Signed.{lt_z, lt_z_yes, lt_z_no, ≤ℤ_refl, <ℤ-≤ℤ_trans}
-use Rattle.std.proofs.lemmas.Int.{ints}
+use Rattle.std.proofs.Common.{◌≡◌, ◌∷◌, ◌≤ℤ◌, Some, None, Option, sym, subst, arith}
+use lib.Signed.{≤ℤ_refl, <ℤ-≤ℤ_trans}
+use Rattle.std.proofs.lemmas.Int.{ints, by_lt_z}
 use Rattle.standing.specs.Model.{Model}
 use Rattle.standing.specs.Call.{Call, History}
 use Rattle.standing.specs.Panel.{Cheaper, Higher}
@@ -17,18 +17,11 @@ pub record Ranking {A : Type 0} (Better : A → A → Type 0) : Type 1 where
   pub same : (a : A) → AtLeast a a
   pub chain : (a b c : A) → Better a b → AtLeast b c → Better a c
 
-pub not_below : (a b : ℤ) → ¬ (a <ℤ b) → b ≤ℤ a
-not_below a b n = go (lt_z a b) refl
-  where
-    go : (t : Bool) → lt_z a b ≡ t → b ≤ℤ a
-    go true e = absurd (n (lt_z_yes (subst T (sym e) tt)))
-    go false e = lt_z_no (subst (λ z. T (not z)) (sym e) tt)
-
 abbrev pub by_cost : (m : Model) → Ranking (Cheaper {m = m})
 by_cost m =
     record {
       AtLeast = λ d e. d.cost ≤ℤ e.cost;
-      otherwise = λ d e n. not_below d.cost e.cost n;
+      otherwise = λ d e n. by_lt_z d.cost e.cost (λ q. absurd (n q)) (λ q. q);
       weaker = λ d e q. omega (arith, ints);
       same = λ d. ≤ℤ_refl d.cost;
       chain = λ d e f q r. <ℤ-≤ℤ_trans q r;
@@ -38,7 +31,7 @@ abbrev pub by_floor : Ranking Higher
 by_floor =
     record {
       AtLeast = λ f g. g ≤ℤ f;
-      otherwise = λ f g n. not_below g f n;
+      otherwise = λ f g n. by_lt_z g f (λ q. absurd (n q)) (λ q. q);
       weaker = λ f g q. omega (arith, ints);
       same = λ f. ≤ℤ_refl f;
       chain = λ f g k q r. omega (arith, ints);

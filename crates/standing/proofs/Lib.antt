@@ -1,4 +1,3 @@
-pub mod Options
 pub mod Best
 pub mod Counting
 pub mod Cases

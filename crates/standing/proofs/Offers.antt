@@ -1,5 +1,6 @@
 -- An offer or a change that the open watch counts.
 use Rattle.std.proofs.Common.{◌≡◌, false, List, ◌∷◌, ℤ, ◌<ℤ◌, Some, None, Option, sym, refl, ◌∙◌, subst}
+use Rattle.std.proofs.lemmas.Option.{none-some}
 use Rattle.standing.specs.Model.{Model, Meets, Grounds}
 use Rattle.standing.specs.Call.{Call, Offer, History}
 use Rattle.standing.specs.Call.Call.{offer, change}
@@ -16,7 +17,6 @@ use Rattle.standing.specs.Told.OffersFloor.{lawful}
 use Rattle.standing.specs.Told.IsChange.{taken}
 use Rattle.standing.specs.Told.IsHeld.{held_dispatch, held_floor}
 use Rattle.standing.specs.Told.IsGood.{good_dispatch, good_prices}
-use Rattle.standing.proofs.Options.{none-some}
 use Rattle.standing.proofs.Best.{by_cost, by_floor, kept, cleared, replaced, left, beats_all, beats_shown}
 use Rattle.standing.proofs.Counting.{offer_no_change}
 use Rattle.standing.proofs.Cases.{case_kept, case_taken}
@@ -169,5 +169,5 @@ module _ (m : Model) (start : m.Case) where
           (sym is-now) (subst m.WellFormed (sym is-now) (grounds.stays (case_at m start h) i.well y c e))
           (cleared m start (by_cost m) (OffersMeeting m start) h (change (Some y)) now-taken (λ d o. change_bad (Some y) (good_dispatch o)))
           (cleared m start by_floor (OffersFloor m start) h (change (Some y)) now-taken (λ f o. change_bad (Some y) (good_prices o)))
-      change_step x k t (change_declined {x = y} e) = change_refused (Some y) (λ z. none-some e (says_taken y z).1)
+      change_step x k t (change_declined {x = y} e) = change_refused (Some y) (λ z. none-some _ (sym e ∙ (says_taken y z).1))
       change_step x k t change_faulty = change_refused None (λ z. elim z [ ])

@@ -3,6 +3,7 @@ use Rattle.std.proofs.Common.{◌≡◌, ℕ, ◌+◌, List, ◌∷◌, ℤ, ◌
 use lib.Signed.{clash_ℤ}
 use Rattle.std.proofs.lemmas.Int.{ints}
 use Rattle.std.proofs.lemmas.Bool.{false≢true}
+use Rattle.std.proofs.lemmas.Option.{none-some, same_Some}
 use Rattle.standing.specs.Model.{Model, Grounds}
 use Rattle.standing.specs.Call.{Call, History}
 use Rattle.standing.specs.Panel.{Counts, Watch, Sheet, Priced, cost_of}
@@ -15,7 +16,6 @@ use Rattle.standing.specs.Standing.SheetsStand.{written, unwritten}
 use Rattle.standing.specs.Theorems.{PinningTheorem, SameCallsTheorem}
 use Rattle.standing.proofs.Counting.{counts_path}
 use Rattle.standing.proofs.Standing.{standing_theorem}
-use Rattle.standing.proofs.Options.{some_injective, none-some}
 
 count_same : {m : Model} {Anew : Call m → Type 0} {P : History m → Call m → Type 0} {h : History m} {n k : ℕ} → CountOf Anew P h n → CountOf Anew P h k → n ≡ k
 count_same CountOf.none CountOf.none = refl
@@ -72,19 +72,19 @@ module _ (m : Model) (start : m.Case) where
       counts_path a b (count_same p.held q.held) (count_same p.passed q.passed) (count_same p.declined q.declined) (count_same p.changes q.changes)
 
   same_attendant : (h : History m) (v w : Watch) → WatchStands m start h v → WatchStands m start h w → v.attendant ≡ w.attendant
-  same_attendant h v w p q = some_injective (sym p.attendant_is ∙ q.attendant_is)
+  same_attendant h v w p q = same_Some _ _ (sym p.attendant_is ∙ q.attendant_is)
 
   same_watch : (h : History m) (a b : Option Watch) → OnWatch m start h a → OnWatch m start h b → a ≡ b
   same_watch h None None p q = refl
-  same_watch h None (Some w) p q = absurd (none-some p q.attendant_is)
-  same_watch h (Some v) None p q = absurd (none-some q p.attendant_is)
+  same_watch h None (Some w) p q = absurd (none-some _ (sym p ∙ q.attendant_is))
+  same_watch h (Some v) None p q = absurd (none-some _ (sym q ∙ p.attendant_is))
   same_watch h (Some v) (Some w) p q =
       ap Some (watch_path v w (same_attendant h v w p q) (same_counts v.counts w.counts p.counts_stand q.counts_stand))
 
   same_sheet : (h : History m) (x y : Sheet) → SheetStands m start h x → SheetStands m start h y → x ≡ y
   same_sheet h x y p q =
       sheet_path x y
-      (some_injective (sym p.watch_stands.attendant_is ∙ q.watch_stands.attendant_is))
+      (same_Some _ _ (sym p.watch_stands.attendant_is ∙ q.watch_stands.attendant_is))
       (same_counts x.counts y.counts p.watch_stands.counts_stand q.watch_stands.counts_stand)
       (p.cost_is ∙ ap cost_of (same_shown h p.shown q.shown p.shown_stands q.shown_stands) ∙ sym q.cost_is)
       (same_floor h x.floor y.floor p.floor_stands q.floor_stands)

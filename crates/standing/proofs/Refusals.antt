@@ -1,6 +1,7 @@
 -- What is refused raises DECLINED and alters nothing else.
 use Rattle.std.proofs.Common.{◌≡◌, ℕ, ◌+◌, true, false, Some, None, Option, sym, refl, ap, ◌∙◌, subst, arith}
 use Rattle.std.proofs.lemmas.Bool.{true≢false}
+use Rattle.std.proofs.lemmas.Option.{none-some, same_Some}
 use Rattle.standing.specs.Model.{Model}
 use Rattle.standing.specs.Call.{Call, Offer, Question}
 use Rattle.standing.specs.Call.Call.{offer, change, ask, hand_over}
@@ -12,12 +13,11 @@ use Rattle.standing.specs.Step.ChangeMade.{change_taken, change_declined, change
 use Rattle.standing.specs.Step.Step.{manned, offer_counted, change_counted, offer_too_many, change_too_many, asked, handed_over, hand_over_refused, stood_down}
 use Rattle.standing.specs.Theorems.{Refused, OfferOrChange, RefusalsAlterNothing}
 use Rattle.standing.specs.Theorems.Refused.{faulty_dispatch, limits_broken, faulty_prices, not_lawful, faulty_change, name_lacking}
-use Rattle.standing.proofs.Options.{some_injective, none-some}
 
 -- a panel has one watch
 module _ {o : Option Watch} {v w : Watch} (p : o ≡ Some v) (q : o ≡ Some w) where
   watch_same : v ≡ w
-  watch_same = some_injective (sym p ∙ q)
+  watch_same = same_Some _ _ (sym p ∙ q)
 
   counting_same : {m : Model} {k l : Heading} {t u : State m} → (k ≡ l) × (t ≡ u) → counting k v t ≡ counting l w u
   counting_same e = λ i. counting (e.0 i) (watch_same i) (e.1 i)
@@ -36,14 +36,14 @@ declined_heading :
     (k : Heading) (u v w : Watch) → Some (record { attendant = u.attendant; counts = raised k u.counts }) ≡ Some v → u ≡ w →
     v.counts.declined ≡ w.counts.declined + 1 → k ≡ DECLINED
 declined_heading k u v w e q n =
-    declined_alone k u.counts (ap (λ z. z.counts.declined) (some_injective e) ∙ n ∙ ap (λ z. z.counts.declined + 1) (sym q))
+    declined_alone k u.counts (ap (λ z. z.counts.declined) (same_Some _ _ e) ∙ n ∙ ap (λ z. z.counts.declined + 1) (sym q))
 
 -- a watch that is as it was has declined no more
 not_raised : {A : Type 0} (v w : Watch) → v ≡ w → v.counts.declined ≡ w.counts.declined + 1 → A
 not_raised v w e n = let k : v.counts.declined ≡ w.counts.declined = ap (λ z. z.counts.declined) e in absurd (omega (arith, k, n))
 
 none-raised : {A : Type 0} (a : ℕ) (v w : Watch) → Some (record { attendant = a; counts = none_yet }) ≡ Some v → v.counts.declined ≡ w.counts.declined + 1 → A
-none-raised a v w e n = let k : 0 ≡ v.counts.declined = ap (λ z. z.counts.declined) (some_injective e) in absurd (omega (arith, k, n))
+none-raised a v w e n = let k : 0 ≡ v.counts.declined = ap (λ z. z.counts.declined) (same_Some _ _ e) in absurd (omega (arith, k, n))
 
 module _ {m : Model} where
   offer_refused : {s : State m} {o : Offer m} {k : Heading} {t : State m} → Offered s o k t → Refused s (offer o) → (k ≡ DECLINED) × (t ≡ s)
@@ -57,7 +57,7 @@ module _ {m : Model} where
   offer_refused prices_faulty faulty_prices = (refl, refl)
 
   change_refused : {s : State m} {x : Option m.Change} {k : Heading} {t : State m} → ChangeMade s x k t → Refused s (change x) → (k ≡ DECLINED) × (t ≡ s)
-  change_refused (change_taken e) (name_lacking n) = absurd (none-some n e)
+  change_refused (change_taken e) (name_lacking n) = absurd (none-some _ (sym n ∙ e))
   change_refused (change_declined e) (name_lacking n) = (refl, refl)
   change_refused change_faulty faulty_change = (refl, refl)
 
@@ -84,7 +84,7 @@ module _ {m : Model} where
 
   only_refused :
       (c : Call m) (s t : State m) (w v : Watch) → Step c s t → s.watch ≡ Some w → t.watch ≡ Some v → v.counts.declined ≡ w.counts.declined + 1 → Refused s c
-  only_refused c s t w v (manned p) q e n = absurd (none-some p q)
+  only_refused c s t w v (manned p) q e n = absurd (none-some _ (sym p ∙ q))
   only_refused c s t w v (offer_counted {t = u} {o = o} {k = k} {w = x} p f y) q e n =
       declined_offer (subst (λ z. Offered s o z u) (declined_heading k x v w e (watch_same p q) n) y)
   only_refused c s t w v (change_counted {t = u} {x = x} {k = k} {w = z} p f y) q e n =
@@ -94,7 +94,7 @@ module _ {m : Model} where
   only_refused c s t w v (asked y) q e n = not_raised v w (watch_same e q) n
   only_refused c s t w v (handed_over {a = a} p) q e n = none-raised a v w e n
   only_refused c s t w v (hand_over_refused p) q e n = not_raised v w (watch_same e q) n
-  only_refused c s t w v (stood_down p) q e n = absurd (none-some refl e)
+  only_refused c s t w v (stood_down p) q e n = absurd (none-some _ e)
 
   too_many : (c : Call m) (s t : State m) (w : Watch) → Step c s t → s.watch ≡ Some w → is_full (total w.counts) ≡ true → OfferOrChange c → t ≡ s
   too_many c s t w (manned p) q f x = elim x [ ]

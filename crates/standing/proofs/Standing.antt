@@ -3,6 +3,7 @@ use Rattle.std.proofs.Common.{◌≡◌, ◌+◌, ◌<◌, ◌≤◌, min, true,
 use Rattle.std.proofs.lemmas.Bool.{true≢false, false≢true, leb-true, leb-false, le-leb, lt-leb}
 use Rattle.measure.specs.Fraction.{Fraction, whole, ◌≤ᶠ◌}
 use Rattle.measure.proofs.Order.{cancel, ≤_trans}
+use Rattle.std.proofs.lemmas.Option.{none-some, same_Some}
 use Rattle.standing.specs.Model.{Model, Grounds}
 use Rattle.standing.specs.Call.{Call, Offer, History}
 use Rattle.standing.specs.Call.Call.{man, offer, change, ask, hand_over, stand_down}
@@ -17,7 +18,6 @@ use Rattle.standing.specs.Told.Ends.{at_hand_over, at_stand_down}
 use Rattle.standing.specs.Standing.{ShownStands, FloorStands, WatchStands, OnWatch, SheetStands, SheetsStand, of_watch, over_all}
 use Rattle.standing.specs.Standing.SheetsStand.{written, unwritten}
 use Rattle.standing.specs.Theorems.{StandingTheorem}
-use Rattle.standing.proofs.Options.{some_injective, none-some}
 use Rattle.standing.proofs.Best.{by_cost, by_floor, IsBest}
 use Rattle.standing.proofs.Counting.{moved-over_all, made_room}
 use Rattle.standing.proofs.Cases.{now_meeting, now_lawful}
@@ -31,16 +31,16 @@ module _ (m : Model) (start : m.Case) where
         record {
           only_if_offered = λ e. absurd (false≢true e);
           if_offered = λ d t. absurd (b d t);
-          is_offered = λ d e. absurd (none-some refl e);
-          at_counted_cost = λ d e. absurd (none-some refl e);
-          meets_now = λ d e. absurd (none-some refl e);
-          truly = λ d e. absurd (none-some refl e);
-          first = λ d e. absurd (none-some refl e);
+          is_offered = λ d e. absurd (none-some _ e);
+          at_counted_cost = λ d e. absurd (none-some _ e);
+          meets_now = λ d e. absurd (none-some _ e);
+          truly = λ d e. absurd (none-some _ e);
+          first = λ d e. absurd (none-some _ e);
           cheapest = λ d g e t. absurd (b g t);
         }
     shown_stands h (Some x) k b =
         let at : (d : Priced m) → Some x ≡ Some d → IsBest m start (by_cost m) (OffersMeeting m start) h d =
-        λ d e. subst (IsBest m start (by_cost m) (OffersMeeting m start) h) (some_injective e) b
+        λ d e. subst (IsBest m start (by_cost m) (OffersMeeting m start) h) (same_Some _ _ e) b
         in
         record {
           only_if_offered = λ e. (x, b.offered);
@@ -58,15 +58,15 @@ module _ (m : Model) (start : m.Case) where
     floor_stands : (h : History m) (o : Option ℤ) → m.WellFormed (case_at m start h) → FloorBest m start h o → FloorStands m start h o
     floor_stands h None k b =
         record {
-          none_cheaper = λ f e. absurd (none-some refl e);
+          none_cheaper = λ f e. absurd (none-some _ e);
           only_if_offered = λ e. absurd (false≢true e);
           if_offered = λ f t. absurd (b f t);
-          is_offered = λ f e. absurd (none-some refl e);
+          is_offered = λ f e. absurd (none-some _ e);
           highest = λ f g e t. absurd (b g t);
         }
     floor_stands h (Some x) k b =
         let at : (f : ℤ) → Some x ≡ Some f → IsBest m start by_floor (OffersFloor m start) h f =
-        λ f e. subst (IsBest m start by_floor (OffersFloor m start) h) (some_injective e) b
+        λ f e. subst (IsBest m start by_floor (OffersFloor m start) h) (same_Some _ _ e) b
         in
         record {
           none_cheaper = λ f e r q.

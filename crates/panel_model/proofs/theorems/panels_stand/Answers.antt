@@ -3,7 +3,6 @@ use Rattle.standing.proofs.Standing.{standing_theorem}
 use Rattle.standing.proofs.Pinning.{pinning_theorem, same-calls_theorem}
 use Rattle.standing.proofs.Refusals.{refusals_alter_nothing}
 use Rattle.standing.proofs.Reoffered.{reoffered_theorem}
-use Rattle.panel_model.specs.Network.{network}
 use Rattle.panel_model.proofs.Grounds.{grounds}
 
 pub returns : goal.returns

@@ -21,13 +21,10 @@ fn judged<'t>(
     second: &'t [i64],
     angles: &'t [i64],
 ) -> Answer {
-    let first = Table { values: first };
-    let second = Table { values: second };
-    let angles = Table { values: angles };
     let dispatch = Dispatch {
-        first,
-        second,
-        angles,
+        first: Table { values: first },
+        second: Table { values: second },
+        angles: Table { values: angles },
     };
     Ok(judge(case, &dispatch)?.0)
 }
@@ -35,8 +32,7 @@ fn judged<'t>(
 fn check_offers(rt: &impl Abort, setting: Setting, offers: &[Offer]) -> Result<(), Fail> {
     let tables = setting.tables()?;
     let case = setting.case(&tables);
-    for offer in offers {
-        let Offer(first, second, angle, expected) = *offer;
+    for &Offer(first, second, angle, expected) in offers {
         assert_eq!(rt;
             judged(&case, &[first], &[second], &[angle]),
             expected,

@@ -109,10 +109,10 @@ pub const WIDEST: Setting = Setting {
 
 impl Line {
     // The branch of these numbers, where each is in its range.
-    fn branch(&self, circuit: u8) -> Result<Branch, Fail> {
+    fn branch(&self, circuit: u32) -> Result<Branch, Fail> {
         let row = BranchRow {
             name: BranchName {
-                circuit: u32::from(circuit),
+                circuit,
                 from: 1,
                 to: u32::from(self.to) + 1,
             },
@@ -134,9 +134,9 @@ impl Line {
 }
 
 // The bus of these numbers, where each is in its range.
-fn bus(name: u8, demand: i64) -> Result<Bus, Fail> {
+fn bus(name: u32, demand: i64) -> Result<Bus, Fail> {
     let row = BusRow {
-        name: u32::from(name),
+        name,
         demand: Watts(demand),
     };
     row.bus()
@@ -188,22 +188,20 @@ impl Setting {
 
     // The case in its tables.
     pub(crate) fn case<'a>(&self, tables: &'a Tables) -> Case<'a, Stepped, Curved> {
-        let first = Machines {
-            rows: &tables.stepped,
-            places: &tables.first,
-            count: 1,
-        };
-        let second = Machines {
-            rows: &tables.curved,
-            places: &tables.second,
-            count: 1,
-        };
         Case {
             tolerance: self.tolerance,
             buses: &tables.buses,
             nb: self.nb,
-            first,
-            second,
+            first: Machines {
+                rows: &tables.stepped,
+                places: &tables.first,
+                count: 1,
+            },
+            second: Machines {
+                rows: &tables.curved,
+                places: &tables.second,
+                count: 1,
+            },
             branches: &tables.branches,
             nl: self.nl,
         }

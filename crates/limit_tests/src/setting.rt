@@ -35,7 +35,7 @@ pub struct Line {
     pub service: bool,
 }
 
-// The numbers of a case. It has the first nb of the buses and the first nl of the lines.
+// The numbers of a case. It has the first nb of the buses and the first nl of the lines; the rows after them stand in the tables unread.
 #[derive(Clone, Copy)]
 pub struct Setting {
     pub tolerance: u32,

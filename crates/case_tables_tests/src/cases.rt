@@ -1,13 +1,13 @@
 // A lawful case, names that are repeated or lacking, and tables that are too short.
 use crate::paper::{LAWFUL, Names, paper};
 use build::tables::Counts;
+use case_paper::fault::CaseFault;
 use case_tables::read::{ReadCase, read_case};
 use curved::curved::Curved;
 use measure::{Microradians, Watts};
 use names::branch::BranchName;
 use network::branch::{Branch, Ends};
 use network::bus::Bus;
-use std::test::Fail;
 use stepped::stepped::Stepped;
 
 const BUS: Bus = Bus {
@@ -49,9 +49,14 @@ const CURVED: Curved = Curved {
     c2: 0,
 };
 
-// The number and the place of the refusal, in tables of three rows; 0 and 0 where the case is read.
-fn refusal(words: &[u32]) -> (u32, usize) {
-    let read = read_case(
+// The number and the place of the refusal, or none where the case is read.
+fn refusal(read: Result<ReadCase, CaseFault>) -> Option<(u32, usize)> {
+    read.err().map(|fault| (fault.number(), fault.place()))
+}
+
+// What reading the words into tables of three rows is refused for.
+fn refused(words: &[u32]) -> Option<(u32, usize)> {
+    refusal(read_case(
         words,
         &mut [BUS; 3],
         &mut [STEPPED; 3],
@@ -59,15 +64,11 @@ fn refusal(words: &[u32]) -> (u32, usize) {
         &mut [CURVED; 3],
         &mut [0; 3],
         &mut [BRANCH; 3],
-    );
-    match read {
-        Ok(_) => (0, 0),
-        Err(f) => (f.number(), f.place()),
-    }
+    ))
 }
 
 #[test]
-fn a_case_is_read(rt: HostRuntime) -> Result<(), Fail> {
+fn a_case_is_read(rt: HostRuntime) {
     let mut buses = [BUS; 3];
     let mut stepped = [STEPPED; 2];
     let mut first = [9; 2];
@@ -83,9 +84,6 @@ fn a_case_is_read(rt: HostRuntime) -> Result<(), Fail> {
         &mut second,
         &mut branches,
     );
-    let Ok(case) = read else {
-        return Err(Fail::new("refused"));
-    };
     let counts = Counts {
         buses: 2,
         first: 1,
@@ -93,11 +91,11 @@ fn a_case_is_read(rt: HostRuntime) -> Result<(), Fail> {
         branches: 2,
     };
     assert_eq!(rt;
-        case,
-        ReadCase {
+        read,
+        Ok(ReadCase {
             tolerance: 5,
             counts,
-        }
+        })
     );
     assert_eq!(rt;
         (
@@ -109,11 +107,7 @@ fn a_case_is_read(rt: HostRuntime) -> Result<(), Fail> {
         (7, 50, 4, 1),
         "buses"
     );
-    assert_eq!(rt;
-        (first[0], first[1], second[0], second[1]),
-        (1, 9, 0, 9),
-        "rows of buses"
-    );
+    assert_eq!(rt; (first, second), ([1, 9], [0, 9]), "rows of buses");
     assert_eq!(rt;
         (
             stepped[0].hi.0,
@@ -147,15 +141,14 @@ fn a_case_is_read(rt: HostRuntime) -> Result<(), Fail> {
         (1, 0, -5, true, false),
         "branches"
     );
-    Ok(())
 }
 
 #[test]
 fn names_are_refused(rt: HostRuntime) {
     let table = [
-        (LAWFUL, 0, 0),
+        (LAWFUL, None),
         // a repeated bus, before a bus that is not there
-        (Names { bus: 7, ..LAWFUL }, 8, 1),
+        (Names { bus: 7, ..LAWFUL }, Some((8, 1))),
         // a repeated branch, before a bus that is not there
         (
             Names {
@@ -163,8 +156,7 @@ fn names_are_refused(rt: HostRuntime) {
                 curved: 5,
                 ..LAWFUL
             },
-            8,
-            1,
+            Some((8, 1)),
         ),
         // the same branch in another circuit
         (
@@ -172,8 +164,7 @@ fn names_are_refused(rt: HostRuntime) {
                 other: 0x2_0407,
                 ..LAWFUL
             },
-            0,
-            0,
+            None,
         ),
         // a bus that is not there, for each machine and each branch
         (
@@ -181,32 +172,28 @@ fn names_are_refused(rt: HostRuntime) {
                 stepped: 5,
                 ..LAWFUL
             },
-            9,
-            0,
+            Some((9, 0)),
         ),
         (
             Names {
                 curved: 5,
                 ..LAWFUL
             },
-            9,
-            1,
+            Some((9, 1)),
         ),
         (
             Names {
                 branch: 0x1_0507,
                 ..LAWFUL
             },
-            9,
-            2,
+            Some((9, 2)),
         ),
         (
             Names {
                 other: 0x1_0705,
                 ..LAWFUL
             },
-            9,
-            3,
+            Some((9, 3)),
         ),
         // equal ends
         (
@@ -214,8 +201,7 @@ fn names_are_refused(rt: HostRuntime) {
                 branch: 0x1_0404,
                 ..LAWFUL
             },
-            9,
-            2,
+            Some((9, 2)),
         ),
         // no name at all, before every other fault of names
         (
@@ -224,19 +210,17 @@ fn names_are_refused(rt: HostRuntime) {
                 curved: 0,
                 ..LAWFUL
             },
-            4,
-            17,
+            Some((4, 17)),
         ),
     ];
-    for (names, number, place) in table.iter() {
-        assert_eq!(rt; refusal(&paper(*names)), (*number, *place));
+    for &(names, expected) in &table {
+        assert_eq!(rt; refused(&paper(names)), expected);
     }
 }
 
 #[test]
-fn tables_may_be_too_short(rt: HostRuntime) -> Result<(), Fail> {
+fn tables_may_be_too_short(rt: HostRuntime) {
     let mut buses = [BUS; 3];
-    let mut branches = [BRANCH; 1];
     let read = read_case(
         &paper(LAWFUL),
         &mut buses,
@@ -244,12 +228,9 @@ fn tables_may_be_too_short(rt: HostRuntime) -> Result<(), Fail> {
         &mut [0; 1],
         &mut [CURVED; 1],
         &mut [0; 1],
-        &mut branches,
+        &mut [BRANCH; 1],
     );
-    let Err(f) = read else {
-        return Err(Fail::new("read"));
-    };
-    assert_eq!(rt; (f.number(), f.place()), (6, 30), "one branch row");
+    assert_eq!(rt; refusal(read), Some((6, 30)), "one branch row");
     assert_eq!(rt; buses[0].name, 1, "no bus is written");
     let read = read_case(
         &paper(LAWFUL),
@@ -260,13 +241,5 @@ fn tables_may_be_too_short(rt: HostRuntime) -> Result<(), Fail> {
         &mut [0; 1],
         &mut [BRANCH; 2],
     );
-    let Err(f) = read else {
-        return Err(Fail::new("read"));
-    };
-    assert_eq!(rt;
-        (f.number(), f.place()),
-        (6, 10),
-        "no row for a machine's bus"
-    );
-    Ok(())
+    assert_eq!(rt; refusal(read), Some((6, 10)), "no row for a machine's bus");
 }

@@ -1,8 +1,14 @@
 // The small harbour in tables: two buses, a stepped machine at the first, a curved one at the second, and one branch between them.
 use build::rows::{BranchRow, BusRow};
 use curved::curved::Curved;
+use measure::column::Table;
 use measure::{Microradians, Watts};
 use names::branch::BranchName;
+use network::branch::{Branch, Ends};
+use network::bus::Bus;
+use network::dispatch::Dispatch;
+use network::prices::Prices;
+use std::fmt;
 use stepped::stepped::Stepped;
 
 pub const BUSES: [BusRow; 2] = [
@@ -51,71 +57,131 @@ pub const BRANCHES: [BranchRow; 1] = [BranchRow {
     service: true,
 }];
 
-// The power of each machine, and the angle of the second bus.
+// Rows with which the tables are filled before the harbour is laid in them.
+pub const NO_BUS: Bus = Bus {
+    name: 1,
+    demand: Watts(0),
+};
+
+pub const NO_BRANCH: Branch = Branch {
+    name: BranchName {
+        circuit: 1,
+        from: 1,
+        to: 1,
+    },
+    ends: Ends { from: 0, to: 0 },
+    susceptance: 1,
+    shift: Microradians(0),
+    rating: Watts(0),
+    angmin: Microradians(0),
+    angmax: Microradians(0),
+    service: false,
+};
+
+// The power of each machine of the two groups, and the angle of the second bus.
 #[derive(Clone, Copy)]
 pub struct Offer {
-    pub first: i64,
-    pub second: i64,
-    pub angle: i64,
+    pub first: [i64; 1],
+    pub second: [i64; 1],
+    pub angles: [i64; 1],
+}
+
+impl Offer {
+    pub(crate) fn dispatch(&self) -> Dispatch<Table<'_>> {
+        Dispatch {
+            first: Table {
+                values: &self.first,
+            },
+            second: Table {
+                values: &self.second,
+            },
+            angles: Table {
+                values: &self.angles,
+            },
+        }
+    }
+}
+
+impl fmt::Display for Offer {
+    fn fmt<W: fmt::Write>(&self, f: &mut fmt::Formatter<W>) -> fmt::Result {
+        let ([first], [second], [angle]) = (self.first, self.second, self.angles);
+        write!(f, "{first} {second} {angle}")
+    }
 }
 
 pub const OFFERS: [Offer; 4] = [
     Offer {
-        first: 600,
-        second: 400,
-        angle: -60,
+        first: [600],
+        second: [400],
+        angles: [-60],
     },
     Offer {
-        first: 800,
-        second: 200,
-        angle: -80,
+        first: [800],
+        second: [200],
+        angles: [-80],
     },
     Offer {
-        first: 801,
-        second: 199,
-        angle: -80,
+        first: [801],
+        second: [199],
+        angles: [-80],
     },
     Offer {
-        first: 900,
-        second: 100,
-        angle: -90,
+        first: [900],
+        second: [100],
+        angles: [-90],
     },
 ];
 
 // The prices at the two buses, and the branch's congestion price and angle price.
 #[derive(Clone, Copy)]
 pub struct List {
-    pub first: i64,
-    pub second: i64,
-    pub congestion: i64,
-    pub angle: i64,
+    pub bus: [i64; 2],
+    pub congestion: [i64; 1],
+    pub angle: [i64; 1],
+}
+
+impl List {
+    pub(crate) fn prices(&self) -> Prices<Table<'_>> {
+        Prices {
+            bus: Table { values: &self.bus },
+            congestion: Table {
+                values: &self.congestion,
+            },
+            angle: Table {
+                values: &self.angle,
+            },
+        }
+    }
+}
+
+impl fmt::Display for List {
+    fn fmt<W: fmt::Write>(&self, f: &mut fmt::Formatter<W>) -> fmt::Result {
+        let ([first, second], [congestion], [angle]) = (self.bus, self.congestion, self.angle);
+        write!(f, "{first} {second} {congestion} {angle}")
+    }
 }
 
 pub const LISTS: [List; 3] = [
     List {
-        first: 30,
-        second: 30,
-        congestion: 0,
-        angle: 0,
+        bus: [30, 30],
+        congestion: [0],
+        angle: [0],
     },
     List {
-        first: 30,
-        second: 31,
-        congestion: 0,
-        angle: 0,
+        bus: [30, 31],
+        congestion: [0],
+        angle: [0],
     },
     List {
-        first: 30,
-        second: 30,
-        congestion: 0,
-        angle: 5,
+        bus: [30, 30],
+        congestion: [0],
+        angle: [5],
     },
 ];
 
 // The list that is tried without the branch.
 pub const TRIAL: List = List {
-    first: 20,
-    second: 31,
-    congestion: 0,
-    angle: 0,
+    bus: [20, 31],
+    congestion: [0],
+    angle: [0],
 };

@@ -2,11 +2,13 @@
 #![tactic(auto)]
 
 mod judge;
+mod refused;
 mod tables;
 
-use crate::judge::{judge_papers, refused};
+use crate::judge::judge_papers;
+use crate::refused::Refused;
 use crate::tables::{NO_BRANCH, NO_BUS, NO_CURVED, NO_STEPPED};
-use anyhow::anyhow;
+use anyhow::Context;
 use case_tables::read::read_case;
 use case_tables::view::view;
 use paper_file::papers::paper_len;
@@ -32,7 +34,11 @@ fn judge_file(rt: &HostRuntime, words: &[u32]) -> anyhow::Result<()> {
         &mut branches,
     );
     match read {
-        Err(fault) => refused(rt, fault.number(), fault.place()),
+        Err(fault) => {
+            let refused = Refused::from(fault);
+            println!(rt; "{refused}")?;
+            Ok(())
+        }
         Ok(read) => {
             println!(rt; "CASE")?;
             let case = view(read, &buses, &stepped, &first, &curved, &second, &branches);
@@ -41,15 +47,11 @@ fn judge_file(rt: &HostRuntime, words: &[u32]) -> anyhow::Result<()> {
     }
 }
 
-fn run(rt: &HostRuntime) -> anyhow::Result<()> {
-    let Some(path) = env::args(rt)?.nth(1) else {
-        return Err(anyhow!("a file of papers is to be named"));
-    };
-    let bytes = fs::read(rt, path.as_str())?;
-    let words = words_of(rt.alloc(), &bytes)?;
-    judge_file(rt, &words)
-}
-
 fn main(rt: HostRuntime) -> anyhow::Result<()> {
-    run(&rt)
+    let path = env::args(&rt)?
+        .nth(1)
+        .context("a file of papers is to be named")?;
+    let bytes = fs::read(&rt, path.as_str())?;
+    let words = words_of(rt.alloc(), &bytes)?;
+    judge_file(&rt, &words)
 }

@@ -1,4 +1,5 @@
-// Rows with which the tables for the largest case are filled before a case is read.
+// Rows with which the tables for the largest case are filled before a case is read. They are written out, since a bus and a branch keep ranges
+// that a `Default` of zeros breaks.
 use curved::curved::Curved;
 use measure::{Microradians, Watts};
 use names::branch::BranchName;

@@ -1,5 +1,4 @@
 // Dispatches one watt or one microradian either side of each limit.
-use crate::setting::Answer::{Figure, Refused};
 use crate::setting::*;
 use curved::curved::Curved;
 use judging::judge::judge;
@@ -22,22 +21,18 @@ fn judged<'t>(
     second: &'t [i64],
     angles: &'t [i64],
 ) -> Answer {
-    let first = Table { values: first };
-    let second = Table { values: second };
-    let angles = Table { values: angles };
     let dispatch = Dispatch {
-        first,
-        second,
-        angles,
+        first: Table { values: first },
+        second: Table { values: second },
+        angles: Table { values: angles },
     };
-    Answer::of(judge(case, &dispatch))
+    Ok(judge(case, &dispatch)?.0)
 }
 
 fn check_offers(rt: &impl Abort, setting: Setting, offers: &[Offer]) -> Result<(), Fail> {
     let tables = setting.tables()?;
     let case = setting.case(&tables);
-    for offer in offers {
-        let Offer(first, second, angle, expected) = *offer;
+    for &Offer(first, second, angle, expected) in offers {
         assert_eq!(rt;
             judged(&case, &[first], &[second], &[angle]),
             expected,
@@ -54,16 +49,16 @@ fn strict_balance(rt: HostRuntime) -> Result<(), Fail> {
         &rt,
         PLAIN,
         &[
-            Offer(600, 200, -800, Figure(2_038_020)),
-            Offer(601, 200, -800, Refused(12, 0)),
-            Offer(599, 200, -800, Refused(12, 0)),
-            Offer(600, 201, -800, Refused(12, 1)),
-            Offer(600, 199, -800, Refused(12, 1)),
-            Offer(601, 199, -800, Refused(12, 0)),
-            Offer(-1_000, 1_800, 800, Figure(2_055_620)),
-            Offer(-1_000, 1_801, 800, Refused(12, 1)),
-            Offer(-999, 1_800, 800, Refused(12, 0)),
-            Offer(-200, 1_000, 0, Figure(2_046_500)),
+            Offer(600, 200, -800, Ok(2_038_020)),
+            Offer(601, 200, -800, Err(Refused(12, 0))),
+            Offer(599, 200, -800, Err(Refused(12, 0))),
+            Offer(600, 201, -800, Err(Refused(12, 1))),
+            Offer(600, 199, -800, Err(Refused(12, 1))),
+            Offer(601, 199, -800, Err(Refused(12, 0))),
+            Offer(-1_000, 1_800, 800, Ok(2_055_620)),
+            Offer(-1_000, 1_801, 800, Err(Refused(12, 1))),
+            Offer(-999, 1_800, 800, Err(Refused(12, 0))),
+            Offer(-200, 1_000, 0, Ok(2_046_500)),
         ],
     )
 }
@@ -78,16 +73,16 @@ fn tolerances(rt: HostRuntime) -> Result<(), Fail> {
             ..PLAIN
         },
         &[
-            Offer(601, 200, -800, Figure(2_038_070)),
-            Offer(602, 200, -800, Refused(12, 0)),
-            Offer(599, 200, -800, Figure(2_038_000)),
-            Offer(598, 200, -800, Refused(12, 0)),
-            Offer(600, 201, -800, Figure(2_038_051)),
-            Offer(600, 202, -800, Refused(12, 1)),
-            Offer(600, 199, -800, Figure(2_037_990)),
-            Offer(600, 198, -800, Refused(12, 1)),
-            Offer(601, 199, -800, Figure(2_038_040)),
-            Offer(602, 202, -800, Refused(12, 0)),
+            Offer(601, 200, -800, Ok(2_038_070)),
+            Offer(602, 200, -800, Err(Refused(12, 0))),
+            Offer(599, 200, -800, Ok(2_038_000)),
+            Offer(598, 200, -800, Err(Refused(12, 0))),
+            Offer(600, 201, -800, Ok(2_038_051)),
+            Offer(600, 202, -800, Err(Refused(12, 1))),
+            Offer(600, 199, -800, Ok(2_037_990)),
+            Offer(600, 198, -800, Err(Refused(12, 1))),
+            Offer(601, 199, -800, Ok(2_038_040)),
+            Offer(602, 202, -800, Err(Refused(12, 0))),
         ],
     )?;
     check_offers(
@@ -97,16 +92,16 @@ fn tolerances(rt: HostRuntime) -> Result<(), Fail> {
             ..PLAIN
         },
         &[
-            Offer(100_600, 200, -800, Figure(7_038_020)),
-            Offer(100_601, 200, -800, Refused(12, 0)),
-            Offer(-99_400, 200, -800, Figure(38_020)),
-            Offer(-99_401, 200, -800, Refused(12, 0)),
-            Offer(600, 100_200, -800, Figure(10_058_020)),
-            Offer(600, 100_201, -800, Refused(12, 1)),
-            Offer(600, -99_800, -800, Figure(4_018_020)),
-            Offer(600, -99_801, -800, Refused(12, 1)),
-            Offer(100_600, -99_800, -800, Figure(9_018_020)),
-            Offer(100_600, 100_201, -800, Refused(12, 1)),
+            Offer(100_600, 200, -800, Ok(7_038_020)),
+            Offer(100_601, 200, -800, Err(Refused(12, 0))),
+            Offer(-99_400, 200, -800, Ok(38_020)),
+            Offer(-99_401, 200, -800, Err(Refused(12, 0))),
+            Offer(600, 100_200, -800, Ok(10_058_020)),
+            Offer(600, 100_201, -800, Err(Refused(12, 1))),
+            Offer(600, -99_800, -800, Ok(4_018_020)),
+            Offer(600, -99_801, -800, Err(Refused(12, 1))),
+            Offer(100_600, -99_800, -800, Ok(9_018_020)),
+            Offer(100_600, 100_201, -800, Err(Refused(12, 1))),
         ],
     )
 }
@@ -121,20 +116,20 @@ fn ratings(rt: HostRuntime) -> Result<(), Fail> {
             ..LINE
         }),
         &[
-            Offer(599, 201, -799, Figure(2_038_031)),
-            Offer(600, 200, -800, Figure(2_038_020)),
-            Offer(601, 199, -801, Refused(13, 0)),
-            Offer(-999, 1_799, 799, Figure(2_055_609)),
-            Offer(-1_000, 1_800, 800, Figure(2_055_620)),
-            Offer(-1_001, 1_801, 801, Refused(13, 0)),
+            Offer(599, 201, -799, Ok(2_038_031)),
+            Offer(600, 200, -800, Ok(2_038_020)),
+            Offer(601, 199, -801, Err(Refused(13, 0))),
+            Offer(-999, 1_799, 799, Ok(2_055_609)),
+            Offer(-1_000, 1_800, 800, Ok(2_055_620)),
+            Offer(-1_001, 1_801, 801, Err(Refused(13, 0))),
         ],
     )?;
     check_offers(
         &rt,
         PLAIN,
         &[
-            Offer(601, 199, -801, Figure(2_038_040)),
-            Offer(-1_001, 1_801, 801, Figure(2_055_632)),
+            Offer(601, 199, -801, Ok(2_038_040)),
+            Offer(-1_001, 1_801, 801, Ok(2_055_632)),
         ],
     )
 }
@@ -150,11 +145,11 @@ fn differences(rt: HostRuntime) -> Result<(), Fail> {
             ..LINE
         }),
         &[
-            Offer(-150, 950, -50, Figure(2_045_952)),
-            Offer(-149, 949, -51, Refused(14, 0)),
-            Offer(-270, 1_070, 70, Figure(2_047_273)),
-            Offer(-271, 1_071, 71, Refused(14, 0)),
-            Offer(-200, 1_000, 0, Figure(2_046_500)),
+            Offer(-150, 950, -50, Ok(2_045_952)),
+            Offer(-149, 949, -51, Err(Refused(14, 0))),
+            Offer(-270, 1_070, 70, Ok(2_047_273)),
+            Offer(-271, 1_071, 71, Err(Refused(14, 0))),
+            Offer(-200, 1_000, 0, Ok(2_046_500)),
         ],
     )?;
     check_offers(
@@ -165,9 +160,9 @@ fn differences(rt: HostRuntime) -> Result<(), Fail> {
             ..LINE
         }),
         &[
-            Offer(-200, 1_000, 0, Figure(2_046_500)),
-            Offer(-199, 999, -1, Refused(14, 0)),
-            Offer(-201, 1_001, 1, Refused(14, 0)),
+            Offer(-200, 1_000, 0, Ok(2_046_500)),
+            Offer(-199, 999, -1, Err(Refused(14, 0))),
+            Offer(-201, 1_001, 1, Err(Refused(14, 0))),
         ],
     )?;
     check_offers(
@@ -178,12 +173,12 @@ fn differences(rt: HostRuntime) -> Result<(), Fail> {
             ..LINE
         }),
         &[
-            Offer(-191, 991, -9, Refused(14, 0)),
-            Offer(-190, 990, -10, Figure(2_046_391)),
-            Offer(-180, 980, -20, Figure(2_046_281)),
-            Offer(-179, 979, -21, Refused(14, 0)),
-            Offer(-200, 1_000, 0, Refused(14, 0)),
-            Offer(-215, 1_015, 15, Refused(14, 0)),
+            Offer(-191, 991, -9, Err(Refused(14, 0))),
+            Offer(-190, 990, -10, Ok(2_046_391)),
+            Offer(-180, 980, -20, Ok(2_046_281)),
+            Offer(-179, 979, -21, Err(Refused(14, 0))),
+            Offer(-200, 1_000, 0, Err(Refused(14, 0))),
+            Offer(-215, 1_015, 15, Err(Refused(14, 0))),
         ],
     )
 }
@@ -201,11 +196,11 @@ fn shifts(rt: HostRuntime) -> Result<(), Fail> {
             ..LINE
         }),
         &[
-            Offer(-180, 980, -50, Figure(2_046_281)),
-            Offer(-179, 979, -51, Refused(13, 0)),
-            Offer(-220, 1_020, -10, Figure(2_046_721)),
-            Offer(-221, 1_021, -9, Refused(13, 0)),
-            Offer(-200, 1_000, -30, Figure(2_046_500)),
+            Offer(-180, 980, -50, Ok(2_046_281)),
+            Offer(-179, 979, -51, Err(Refused(13, 0))),
+            Offer(-220, 1_020, -10, Ok(2_046_721)),
+            Offer(-221, 1_021, -9, Err(Refused(13, 0))),
+            Offer(-200, 1_000, -30, Ok(2_046_500)),
         ],
     )?;
     check_offers(
@@ -216,10 +211,10 @@ fn shifts(rt: HostRuntime) -> Result<(), Fail> {
             ..LINE
         }),
         &[
-            Offer(-110, 910, 0, Figure(2_045_515)),
-            Offer(-200, 1_000, 30, Figure(2_046_500)),
-            Offer(-203, 1_003, 31, Figure(2_046_534)),
-            Offer(-290, 1_090, 0, Refused(12, 0)),
+            Offer(-110, 910, 0, Ok(2_045_515)),
+            Offer(-200, 1_000, 30, Ok(2_046_500)),
+            Offer(-203, 1_003, 31, Ok(2_046_534)),
+            Offer(-290, 1_090, 0, Err(Refused(12, 0))),
         ],
     )
 }
@@ -237,15 +232,15 @@ fn out_of_service(rt: HostRuntime) -> Result<(), Fail> {
             ..LINE
         }),
         &[
-            Offer(-200, 1_000, 0, Figure(2_046_500)),
-            Offer(-200, 1_000, -2, Figure(2_046_500)),
-            Offer(-200, 1_000, 2, Figure(2_046_500)),
-            Offer(-200, 1_000, -3_200_000, Figure(2_046_500)),
-            Offer(-200, 1_000, 3_200_000, Figure(2_046_500)),
-            Offer(-200, 1_000, -3_200_001, Refused(4, 1)),
-            Offer(-199, 1_000, 0, Refused(12, 0)),
-            Offer(-200, 999, 0, Refused(12, 1)),
-            Offer(600, 200, -800, Refused(12, 0)),
+            Offer(-200, 1_000, 0, Ok(2_046_500)),
+            Offer(-200, 1_000, -2, Ok(2_046_500)),
+            Offer(-200, 1_000, 2, Ok(2_046_500)),
+            Offer(-200, 1_000, -3_200_000, Ok(2_046_500)),
+            Offer(-200, 1_000, 3_200_000, Ok(2_046_500)),
+            Offer(-200, 1_000, -3_200_001, Err(Refused(4, 1))),
+            Offer(-199, 1_000, 0, Err(Refused(12, 0))),
+            Offer(-200, 999, 0, Err(Refused(12, 1))),
+            Offer(600, 200, -800, Err(Refused(12, 0))),
         ],
     )
 }
@@ -257,12 +252,12 @@ fn angle_ranges(rt: HostRuntime) -> Result<(), Fail> {
         &rt,
         PLAIN,
         &[
-            Offer(3_199_800, -3_199_000, -3_200_000, Figure(5_182_822_500)),
-            Offer(-3_200_200, 3_201_000, 3_200_000, Figure(5_157_246_500)),
-            Offer(3_199_801, -3_199_001, -3_200_001, Refused(4, 1)),
-            Offer(-3_200_201, 3_201_001, 3_200_001, Refused(4, 1)),
-            Offer(600, 200, i64::MAX, Refused(4, 1)),
-            Offer(600, 200, i64::MIN, Refused(4, 1)),
+            Offer(3_199_800, -3_199_000, -3_200_000, Ok(5_182_822_500)),
+            Offer(-3_200_200, 3_201_000, 3_200_000, Ok(5_157_246_500)),
+            Offer(3_199_801, -3_199_001, -3_200_001, Err(Refused(4, 1))),
+            Offer(-3_200_201, 3_201_001, 3_200_001, Err(Refused(4, 1))),
+            Offer(600, 200, i64::MAX, Err(Refused(4, 1))),
+            Offer(600, 200, i64::MIN, Err(Refused(4, 1))),
         ],
     )
 }
@@ -281,14 +276,14 @@ fn power_limits(rt: HostRuntime) -> Result<(), Fail> {
             ..LINE
         }),
         &[
-            Offer(5_000_000, -3_500_000, 0, Figure(6_272_002_000)),
-            Offer(5_000_001, -3_500_000, 0, Refused(11, 0)),
-            Offer(5_000_000, -3_500_001, 0, Refused(11, 1)),
-            Offer(5_000_001, -3_500_001, 0, Refused(11, 0)),
-            Offer(4_999_999, -3_500_000, 0, Refused(12, 0)),
-            Offer(5_000_000, -3_499_999, 0, Refused(12, 1)),
-            Offer(i64::MAX, -3_500_000, 0, Refused(11, 0)),
-            Offer(5_000_000, i64::MIN, 0, Refused(11, 1)),
+            Offer(5_000_000, -3_500_000, 0, Ok(6_272_002_000)),
+            Offer(5_000_001, -3_500_000, 0, Err(Refused(11, 0))),
+            Offer(5_000_000, -3_500_001, 0, Err(Refused(11, 1))),
+            Offer(5_000_001, -3_500_001, 0, Err(Refused(11, 0))),
+            Offer(4_999_999, -3_500_000, 0, Err(Refused(12, 0))),
+            Offer(5_000_000, -3_499_999, 0, Err(Refused(12, 1))),
+            Offer(i64::MAX, -3_500_000, 0, Err(Refused(11, 0))),
+            Offer(5_000_000, i64::MIN, 0, Err(Refused(11, 1))),
         ],
     )?;
     check_offers(
@@ -302,14 +297,14 @@ fn power_limits(rt: HostRuntime) -> Result<(), Fail> {
             ..LINE
         }),
         &[
-            Offer(-4_000_000, 4_500_000, 0, Figure(10_182_020_000)),
-            Offer(-4_000_001, 4_500_000, 0, Refused(11, 0)),
-            Offer(-4_000_000, 4_500_001, 0, Refused(11, 1)),
-            Offer(-4_000_001, 4_500_001, 0, Refused(11, 0)),
-            Offer(-3_999_999, 4_500_000, 0, Refused(12, 0)),
-            Offer(-4_000_000, 4_499_999, 0, Refused(12, 1)),
-            Offer(i64::MIN, 4_500_000, 0, Refused(11, 0)),
-            Offer(-4_000_000, i64::MAX, 0, Refused(11, 1)),
+            Offer(-4_000_000, 4_500_000, 0, Ok(10_182_020_000)),
+            Offer(-4_000_001, 4_500_000, 0, Err(Refused(11, 0))),
+            Offer(-4_000_000, 4_500_001, 0, Err(Refused(11, 1))),
+            Offer(-4_000_001, 4_500_001, 0, Err(Refused(11, 0))),
+            Offer(-3_999_999, 4_500_000, 0, Err(Refused(12, 0))),
+            Offer(-4_000_000, 4_499_999, 0, Err(Refused(12, 1))),
+            Offer(i64::MIN, 4_500_000, 0, Err(Refused(11, 0))),
+            Offer(-4_000_000, i64::MAX, 0, Err(Refused(11, 1))),
         ],
     )
 }
@@ -326,19 +321,19 @@ fn order_of_refusals(rt: HostRuntime) -> Result<(), Fail> {
             ..LINE
         }),
         &[
-            Offer(5_000_001, 200, -3_200_001, Refused(4, 1)),
-            Offer(600, 4_500_001, 3_200_001, Refused(4, 1)),
-            Offer(600, 200, 3_200_001, Refused(4, 1)),
-            Offer(5_000_001, 200, -800, Refused(11, 0)),
-            Offer(601, 4_500_001, -801, Refused(11, 1)),
-            Offer(600, -3_500_001, -1_000, Refused(11, 1)),
-            Offer(601, 200, -801, Refused(12, 1)),
-            Offer(602, 200, -802, Refused(12, 1)),
-            Offer(600, 200, -3_200_000, Refused(12, 0)),
-            Offer(600, 200, -851, Refused(12, 0)),
-            Offer(651, 149, -851, Refused(13, 0)),
-            Offer(-1_101, 1_901, 901, Refused(13, 0)),
-            Offer(601, 199, -801, Refused(13, 0)),
+            Offer(5_000_001, 200, -3_200_001, Err(Refused(4, 1))),
+            Offer(600, 4_500_001, 3_200_001, Err(Refused(4, 1))),
+            Offer(600, 200, 3_200_001, Err(Refused(4, 1))),
+            Offer(5_000_001, 200, -800, Err(Refused(11, 0))),
+            Offer(601, 4_500_001, -801, Err(Refused(11, 1))),
+            Offer(600, -3_500_001, -1_000, Err(Refused(11, 1))),
+            Offer(601, 200, -801, Err(Refused(12, 1))),
+            Offer(602, 200, -802, Err(Refused(12, 1))),
+            Offer(600, 200, -3_200_000, Err(Refused(12, 0))),
+            Offer(600, 200, -851, Err(Refused(12, 0))),
+            Offer(651, 149, -851, Err(Refused(13, 0))),
+            Offer(-1_101, 1_901, 901, Err(Refused(13, 0))),
+            Offer(601, 199, -801, Err(Refused(13, 0))),
         ],
     )?;
     check_offers(
@@ -350,10 +345,10 @@ fn order_of_refusals(rt: HostRuntime) -> Result<(), Fail> {
             ..LINE
         }),
         &[
-            Offer(501, 299, -701, Refused(14, 0)),
-            Offer(502, 299, -701, Refused(12, 0)),
-            Offer(500, 300, -700, Figure(2_039_045)),
-            Offer(601, 199, -801, Refused(13, 0)),
+            Offer(501, 299, -701, Err(Refused(14, 0))),
+            Offer(502, 299, -701, Err(Refused(12, 0))),
+            Offer(500, 300, -700, Ok(2_039_045)),
+            Offer(601, 199, -801, Err(Refused(13, 0))),
         ],
     )
 }
@@ -378,18 +373,18 @@ fn powers_at_every_limit(rt: HostRuntime) -> Result<(), Fail> {
                 100_000_000,
                 -100_000_000,
                 -1_600_001,
-                Figure(505_000_000_000_000),
+                Ok(505_000_000_000_000),
             ),
-            Offer(100_000_000, -100_000_000, -1_600_002, Refused(12, 0)),
+            Offer(100_000_000, -100_000_000, -1_600_002, Err(Refused(12, 0))),
             Offer(
                 100_000_000,
                 -100_000_000,
                 -1_599_999,
-                Figure(505_000_000_000_000),
+                Ok(505_000_000_000_000),
             ),
-            Offer(100_000_001, -100_000_000, -1_600_001, Refused(11, 0)),
-            Offer(100_000_000, -100_000_001, -1_600_001, Refused(11, 1)),
-            Offer(100_000_000, -100_000_000, 3_200_000, Refused(12, 0)),
+            Offer(100_000_001, -100_000_000, -1_600_001, Err(Refused(11, 0))),
+            Offer(100_000_000, -100_000_001, -1_600_001, Err(Refused(11, 1))),
+            Offer(100_000_000, -100_000_000, 3_200_000, Err(Refused(12, 0))),
         ],
     )?;
     check_offers(
@@ -409,16 +404,16 @@ fn powers_at_every_limit(rt: HostRuntime) -> Result<(), Fail> {
                 -100_000_000,
                 100_000_000,
                 1_600_001,
-                Figure(105_000_000_000_000),
+                Ok(105_000_000_000_000),
             ),
             Offer(
                 -100_000_000,
                 100_000_000,
                 1_599_999,
-                Figure(105_000_000_000_000),
+                Ok(105_000_000_000_000),
             ),
-            Offer(-100_000_000, 100_000_000, 1_599_998, Refused(12, 0)),
-            Offer(-100_000_000, 100_000_000, -3_200_000, Refused(12, 0)),
+            Offer(-100_000_000, 100_000_000, 1_599_998, Err(Refused(12, 0))),
+            Offer(-100_000_000, 100_000_000, -3_200_000, Err(Refused(12, 0))),
         ],
     )
 }
@@ -442,9 +437,9 @@ fn flows_at_every_limit(rt: HostRuntime) -> Result<(), Fail> {
             ..LINE
         }),
         &[
-            Offer(100_000_000, 0, -1_600_100, Figure(400_000_000_000_000)),
-            Offer(100_000_000, -1, -1_600_100, Refused(12, 1)),
-            Offer(100_000_000, 100_000_000, 3_200_000, Refused(12, 0)),
+            Offer(100_000_000, 0, -1_600_100, Ok(400_000_000_000_000)),
+            Offer(100_000_000, -1, -1_600_100, Err(Refused(12, 1))),
+            Offer(100_000_000, 100_000_000, 3_200_000, Err(Refused(12, 0))),
         ],
     )?;
     check_offers(
@@ -463,9 +458,9 @@ fn flows_at_every_limit(rt: HostRuntime) -> Result<(), Fail> {
             ..LINE
         }),
         &[
-            Offer(-100_000_000, 0, 1_600_100, Figure(200_000_000_000_000)),
-            Offer(-100_000_000, 0, 1_600_101, Refused(12, 0)),
-            Offer(-100_000_000, 100_000_000, -3_200_000, Refused(12, 0)),
+            Offer(-100_000_000, 0, 1_600_100, Ok(200_000_000_000_000)),
+            Offer(-100_000_000, 0, 1_600_101, Err(Refused(12, 0))),
+            Offer(-100_000_000, 100_000_000, -3_200_000, Err(Refused(12, 0))),
         ],
     )
 }

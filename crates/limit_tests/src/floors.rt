@@ -1,5 +1,4 @@
 // Price lists one either side of each limit, and what the floor is made of.
-use crate::setting::Answer::{Figure, Refused};
 use crate::setting::*;
 use curved::curved::Curved;
 use measure::column::Table;
@@ -16,13 +15,14 @@ const HIGH: i64 = 1_000_000;
 
 const LOW: i64 = -1_000_000;
 
-// The prices of two buses, the congestion price and the angle price of one branch, and the floor.
+// The prices of the buses, the congestion prices and the angle prices of the branches, and the floor.
 #[derive(Clone, Copy)]
-struct List(i64, i64, i64, i64, Answer);
-
-// The prices of three buses, the congestion prices and the angle prices of two branches, and the floor.
-#[derive(Clone, Copy)]
-struct PairList([i64; 3], [i64; 2], [i64; 2], Answer);
+struct List<const BUSES: usize, const BRANCHES: usize>(
+    [i64; BUSES],
+    [i64; BRANCHES],
+    [i64; BRANCHES],
+    Answer,
+);
 
 // What the floor of a price list of three tables is.
 fn floored<'t>(
@@ -31,46 +31,27 @@ fn floored<'t>(
     congestion: &'t [i64],
     angle: &'t [i64],
 ) -> Answer {
-    let bus = Table { values: bus };
-    let congestion = Table { values: congestion };
-    let angle = Table { values: angle };
     let prices = Prices {
-        bus,
-        congestion,
-        angle,
+        bus: Table { values: bus },
+        congestion: Table { values: congestion },
+        angle: Table { values: angle },
     };
-    Answer::of(floor(case, &prices))
+    Ok(floor(case, &prices)?.0)
 }
 
-fn check_lists(rt: &impl Abort, setting: Setting, lists: &[List]) -> Result<(), Fail> {
+fn check_lists<const BUSES: usize, const BRANCHES: usize>(
+    rt: &impl Abort,
+    setting: Setting,
+    lists: &[List<BUSES, BRANCHES>],
+) -> Result<(), Fail> {
     let tables = setting.tables()?;
     let case = setting.case(&tables);
-    for list in lists {
-        let List(first, second, congestion, angle, expected) = *list;
-        let found = floored(&case, &[first, second], &[congestion], &[angle]);
+    for &List(bus, congestion, angle, expected) in lists {
         assert_eq!(rt;
-            found,
+            floored(&case, &bus, &congestion, &angle),
             expected,
-            "prices {first} {second} {congestion} {angle}"
+            "prices {bus:?} {congestion:?} {angle:?}"
         );
-    }
-    Ok(())
-}
-
-fn check_pair_list(rt: &impl Abort, case: &Case<Stepped, Curved>, list: PairList) {
-    let PairList(bus, congestion, angle, expected) = list;
-    assert_eq!(rt;
-        floored(case, &bus, &congestion, &angle),
-        expected,
-        "prices {bus:?} {congestion:?} {angle:?}"
-    );
-}
-
-fn check_pair_lists(rt: &impl Abort, setting: Setting, lists: &[PairList]) -> Result<(), Fail> {
-    let tables = setting.tables()?;
-    let case = setting.case(&tables);
-    for list in lists {
-        check_pair_list(rt, &case, *list);
     }
     Ok(())
 }
@@ -82,17 +63,17 @@ fn bus_prices(rt: HostRuntime) -> Result<(), Fail> {
         &rt,
         PLAIN,
         &[
-            List(HIGH, HIGH, 0, 0, Figure(-9_488_687_998_000)),
-            List(LOW, LOW, 0, 0, Figure(-7_494_857_980_000)),
-            List(HIGH, LOW, 0, 0, Figure(-14_894_927_998_000)),
-            List(LOW, HIGH, 0, 0, Figure(-14_888_617_980_000)),
-            List(1_000_001, HIGH, 0, 0, Refused(4, 0)),
-            List(-1_000_001, HIGH, 0, 0, Refused(4, 0)),
-            List(HIGH, 1_000_001, 0, 0, Refused(4, 1)),
-            List(HIGH, -1_000_001, 0, 0, Refused(4, 1)),
-            List(1_000_001, -1_000_001, 0, 0, Refused(4, 0)),
-            List(i64::MAX, 0, 0, 0, Refused(4, 0)),
-            List(0, i64::MIN, 0, 0, Refused(4, 1)),
+            List([HIGH, HIGH], [0], [0], Ok(-9_488_687_998_000)),
+            List([LOW, LOW], [0], [0], Ok(-7_494_857_980_000)),
+            List([HIGH, LOW], [0], [0], Ok(-14_894_927_998_000)),
+            List([LOW, HIGH], [0], [0], Ok(-14_888_617_980_000)),
+            List([1_000_001, HIGH], [0], [0], Err(Refused(4, 0))),
+            List([-1_000_001, HIGH], [0], [0], Err(Refused(4, 0))),
+            List([HIGH, 1_000_001], [0], [0], Err(Refused(4, 1))),
+            List([HIGH, -1_000_001], [0], [0], Err(Refused(4, 1))),
+            List([1_000_001, -1_000_001], [0], [0], Err(Refused(4, 0))),
+            List([i64::MAX, 0], [0], [0], Err(Refused(4, 0))),
+            List([0, i64::MIN], [0], [0], Err(Refused(4, 1))),
         ],
     )
 }
@@ -107,18 +88,18 @@ fn branch_prices(rt: HostRuntime) -> Result<(), Fail> {
             ..LINE
         }),
         &[
-            List(30, 30, HIGH, 0, Figure(-3_200_797_962_000)),
-            List(30, 30, LOW, 0, Figure(-3_200_797_962_000)),
-            List(30, 30, 1_000_001, 0, Refused(4, 0)),
-            List(30, 30, -1_000_001, 0, Refused(4, 0)),
-            List(30, 30, i64::MIN, 0, Refused(4, 0)),
-            List(30, 30, 0, 100_000_000, Figure(-959_999_997_962_000)),
-            List(30, 30, 0, -100_000_000, Figure(-959_999_997_962_000)),
-            List(30, 30, 0, 100_000_001, Refused(4, 0)),
-            List(30, 30, 0, -100_000_001, Refused(4, 0)),
-            List(30, 30, 0, i64::MAX, Refused(4, 0)),
-            List(30, 1_000_001, 1_000_001, 0, Refused(4, 1)),
-            List(30, 1_000_001, 0, 100_000_001, Refused(4, 1)),
+            List([30, 30], [HIGH], [0], Ok(-3_200_797_962_000)),
+            List([30, 30], [LOW], [0], Ok(-3_200_797_962_000)),
+            List([30, 30], [1_000_001], [0], Err(Refused(4, 0))),
+            List([30, 30], [-1_000_001], [0], Err(Refused(4, 0))),
+            List([30, 30], [i64::MIN], [0], Err(Refused(4, 0))),
+            List([30, 30], [0], [100_000_000], Ok(-959_999_997_962_000)),
+            List([30, 30], [0], [-100_000_000], Ok(-959_999_997_962_000)),
+            List([30, 30], [0], [100_000_001], Err(Refused(4, 0))),
+            List([30, 30], [0], [-100_000_001], Err(Refused(4, 0))),
+            List([30, 30], [0], [i64::MAX], Err(Refused(4, 0))),
+            List([30, 1_000_001], [1_000_001], [0], Err(Refused(4, 1))),
+            List([30, 1_000_001], [0], [100_000_001], Err(Refused(4, 1))),
         ],
     )
 }
@@ -130,12 +111,12 @@ fn unrated(rt: HostRuntime) -> Result<(), Fail> {
         &rt,
         PLAIN,
         &[
-            List(30, 30, 0, 0, Figure(2_038_000)),
-            List(30, 30, 1, 0, Refused(15, 0)),
-            List(30, 30, -1, 0, Refused(15, 0)),
-            List(30, 30, HIGH, 0, Refused(15, 0)),
-            List(30, 30, 1_000_001, 0, Refused(4, 0)),
-            List(30, 30, 1, 100_000_001, Refused(4, 0)),
+            List([30, 30], [0], [0], Ok(2_038_000)),
+            List([30, 30], [1], [0], Err(Refused(15, 0))),
+            List([30, 30], [-1], [0], Err(Refused(15, 0))),
+            List([30, 30], [HIGH], [0], Err(Refused(15, 0))),
+            List([30, 30], [1_000_001], [0], Err(Refused(4, 0))),
+            List([30, 30], [1], [100_000_001], Err(Refused(4, 0))),
         ],
     )?;
     check_lists(
@@ -145,9 +126,9 @@ fn unrated(rt: HostRuntime) -> Result<(), Fail> {
             ..LINE
         }),
         &[
-            List(30, 30, 0, 0, Figure(2_038_000)),
-            List(30, 30, 1, 0, Figure(-1_162_001)),
-            List(30, 30, -1, 0, Figure(-1_162_001)),
+            List([30, 30], [0], [0], Ok(2_038_000)),
+            List([30, 30], [1], [0], Ok(-1_162_001)),
+            List([30, 30], [-1], [0], Ok(-1_162_001)),
         ],
     )
 }
@@ -166,12 +147,12 @@ fn idle_branches(rt: HostRuntime) -> Result<(), Fail> {
             ..LINE
         }),
         &[
-            List(20, 31, 0, 0, Figure(2_046_500)),
-            List(20, 31, 1, 0, Figure(2_046_500)),
-            List(20, 31, LOW, -100_000_000, Figure(2_046_500)),
-            List(20, 31, HIGH, 100_000_000, Figure(2_046_500)),
-            List(20, 31, 1_000_001, 0, Refused(4, 0)),
-            List(20, 31, 0, -100_000_001, Refused(4, 0)),
+            List([20, 31], [0], [0], Ok(2_046_500)),
+            List([20, 31], [1], [0], Ok(2_046_500)),
+            List([20, 31], [LOW], [-100_000_000], Ok(2_046_500)),
+            List([20, 31], [HIGH], [100_000_000], Ok(2_046_500)),
+            List([20, 31], [1_000_001], [0], Err(Refused(4, 0))),
+            List([20, 31], [0], [-100_000_001], Err(Refused(4, 0))),
         ],
     )?;
     check_lists(
@@ -184,11 +165,11 @@ fn idle_branches(rt: HostRuntime) -> Result<(), Fail> {
             ..LINE
         }),
         &[
-            List(HIGH, LOW, HIGH, 0, Figure(-8_494_927_998_000)),
-            List(LOW, HIGH, LOW, 100_000_000, Figure(-8_488_617_980_000)),
+            List([HIGH, LOW], [HIGH], [0], Ok(-8_494_927_998_000)),
+            List([LOW, HIGH], [LOW], [100_000_000], Ok(-8_488_617_980_000)),
         ],
     )?;
-    check_pair_lists(
+    check_lists(
         &rt,
         PLAIN.with_two_lines(
             LINE,
@@ -200,14 +181,9 @@ fn idle_branches(rt: HostRuntime) -> Result<(), Fail> {
             },
         ),
         &[
-            PairList(
-                [30, 20, 0],
-                [0, HIGH],
-                [-10, 100_000_000],
-                Figure(-62_022_000),
-            ),
-            PairList([30, 20, 0], [0, 1_000_001], [-10, 0], Refused(4, 1)),
-            PairList([30, 20, 0], [1, HIGH], [-10, 0], Refused(15, 0)),
+            List([30, 20, 0], [0, HIGH], [-10, 100_000_000], Ok(-62_022_000)),
+            List([30, 20, 0], [0, 1_000_001], [-10, 0], Err(Refused(4, 1))),
+            List([30, 20, 0], [1, HIGH], [-10, 0], Err(Refused(15, 0))),
         ],
     )
 }
@@ -215,21 +191,21 @@ fn idle_branches(rt: HostRuntime) -> Result<(), Fail> {
 // Rows after those of the case are not read.
 #[test]
 fn rows_not_read(rt: HostRuntime) -> Result<(), Fail> {
-    check_pair_lists(
+    check_lists(
         &rt,
         PLAIN,
         &[
-            PairList(
+            List(
                 [30, 30, 1_000_001],
                 [0, 1_000_001],
                 [0, 100_000_001],
-                Figure(2_038_000),
+                Ok(2_038_000),
             ),
-            PairList(
+            List(
                 [30, 30, i64::MIN],
                 [0, i64::MAX],
                 [0, i64::MIN],
-                Figure(2_038_000),
+                Ok(2_038_000),
             ),
         ],
     )
@@ -238,7 +214,7 @@ fn rows_not_read(rt: HostRuntime) -> Result<(), Fail> {
 // Two weights at their limits that leave no residue, and one step beyond.
 #[test]
 fn weights_in_balance(rt: HostRuntime) -> Result<(), Fail> {
-    check_pair_lists(
+    check_lists(
         &rt,
         PLAIN.with_two_lines(
             Line {
@@ -253,13 +229,13 @@ fn weights_in_balance(rt: HostRuntime) -> Result<(), Fail> {
             },
         ),
         &[
-            PairList([30, 30, 0], [HIGH, LOW], [0, 0], Figure(-1_597_962_000)),
-            PairList([30, 30, 0], [LOW, HIGH], [0, 0], Figure(-1_597_962_000)),
-            PairList([31, 30, 0], [HIGH, LOW], [0, 0], Refused(16, 0)),
-            PairList([30, 31, 0], [HIGH, LOW], [0, 0], Refused(16, 1)),
-            PairList([31, 30, 0], [LOW, HIGH], [0, 0], Refused(16, 1)),
-            PairList([30, 31, 0], [LOW, HIGH], [0, 0], Refused(16, 0)),
-            PairList([31, 30, 0], [999_999, LOW], [0, 0], Figure(-33_597_962_000)),
+            List([30, 30, 0], [HIGH, LOW], [0, 0], Ok(-1_597_962_000)),
+            List([30, 30, 0], [LOW, HIGH], [0, 0], Ok(-1_597_962_000)),
+            List([31, 30, 0], [HIGH, LOW], [0, 0], Err(Refused(16, 0))),
+            List([30, 31, 0], [HIGH, LOW], [0, 0], Err(Refused(16, 1))),
+            List([31, 30, 0], [LOW, HIGH], [0, 0], Err(Refused(16, 1))),
+            List([30, 31, 0], [LOW, HIGH], [0, 0], Err(Refused(16, 0))),
+            List([31, 30, 0], [999_999, LOW], [0, 0], Ok(-33_597_962_000)),
         ],
     )
 }
@@ -267,7 +243,7 @@ fn weights_in_balance(rt: HostRuntime) -> Result<(), Fail> {
 // One either side of the range of a weight, before the residue of the first bus is tested.
 #[test]
 fn weights(rt: HostRuntime) -> Result<(), Fail> {
-    check_pair_lists(
+    check_lists(
         &rt,
         PLAIN.with_two_lines(
             LINE,
@@ -278,13 +254,13 @@ fn weights(rt: HostRuntime) -> Result<(), Fail> {
             },
         ),
         &[
-            PairList([HIGH, LOW, 0], [0, 824_061], [0, 0], Refused(16, 1)),
-            PairList([HIGH, LOW, 0], [0, 824_060], [0, 0], Refused(16, 0)),
-            PairList([LOW, HIGH, 0], [0, -824_061], [0, 0], Refused(16, 1)),
-            PairList([LOW, HIGH, 0], [0, -824_060], [0, 0], Refused(16, 0)),
+            List([HIGH, LOW, 0], [0, 824_061], [0, 0], Err(Refused(16, 1))),
+            List([HIGH, LOW, 0], [0, 824_060], [0, 0], Err(Refused(16, 0))),
+            List([LOW, HIGH, 0], [0, -824_061], [0, 0], Err(Refused(16, 1))),
+            List([LOW, HIGH, 0], [0, -824_060], [0, 0], Err(Refused(16, 0))),
         ],
     )?;
-    check_pair_lists(
+    check_lists(
         &rt,
         PLAIN.with_two_lines(
             LINE,
@@ -295,10 +271,10 @@ fn weights(rt: HostRuntime) -> Result<(), Fail> {
             },
         ),
         &[
-            PairList([HIGH, LOW, 0], [0, 0], [0, 0], Refused(16, 0)),
-            PairList([HIGH, LOW, 0], [0, 1], [0, 0], Refused(16, 1)),
-            PairList([LOW, HIGH, 0], [0, 0], [0, 0], Refused(16, 0)),
-            PairList([LOW, HIGH, 0], [0, -1], [0, 0], Refused(16, 1)),
+            List([HIGH, LOW, 0], [0, 0], [0, 0], Err(Refused(16, 0))),
+            List([HIGH, LOW, 0], [0, 1], [0, 0], Err(Refused(16, 1))),
+            List([LOW, HIGH, 0], [0, 0], [0, 0], Err(Refused(16, 0))),
+            List([LOW, HIGH, 0], [0, -1], [0, 0], Err(Refused(16, 1))),
         ],
     )
 }
@@ -313,15 +289,15 @@ fn residues(rt: HostRuntime) -> Result<(), Fail> {
             ..LINE
         }),
         &[
-            List(HIGH, 0, 0, 0, Figure(-3_204_999_948_448_000)),
-            List(HIGH, 0, 0, 1, Refused(16, 0)),
-            List(HIGH, 0, 0, -1, Figure(-3_204_999_951_648_000)),
-            List(0, HIGH, 0, 0, Figure(-3_204_488_817_980_000)),
-            List(0, HIGH, 0, -1, Refused(16, 0)),
-            List(0, HIGH, 0, 1, Figure(-3_204_488_821_180_000)),
-            List(HIGH, -1, 0, -1_000, Figure(-3_205_006_348_479_500)),
-            List(HIGH, -1, 0, -999, Refused(16, 0)),
-            List(HIGH, LOW, 0, 0, Refused(16, 0)),
+            List([HIGH, 0], [0], [0], Ok(-3_204_999_948_448_000)),
+            List([HIGH, 0], [0], [1], Err(Refused(16, 0))),
+            List([HIGH, 0], [0], [-1], Ok(-3_204_999_951_648_000)),
+            List([0, HIGH], [0], [0], Ok(-3_204_488_817_980_000)),
+            List([0, HIGH], [0], [-1], Err(Refused(16, 0))),
+            List([0, HIGH], [0], [1], Ok(-3_204_488_821_180_000)),
+            List([HIGH, -1], [0], [-1_000], Ok(-3_205_006_348_479_500)),
+            List([HIGH, -1], [0], [-999], Err(Refused(16, 0))),
+            List([HIGH, LOW], [0], [0], Err(Refused(16, 0))),
         ],
     )?;
     check_lists(
@@ -331,14 +307,14 @@ fn residues(rt: HostRuntime) -> Result<(), Fail> {
             service: false,
             ..LINE
         }),
-        &[List(HIGH, LOW, 0, 1, Figure(-8_494_927_998_000))],
+        &[List([HIGH, LOW], [0], [1], Ok(-8_494_927_998_000))],
     )
 }
 
 // Residues beyond their range at one bus only: the reference, the second and the third.
 #[test]
 fn residues_of_three_buses(rt: HostRuntime) -> Result<(), Fail> {
-    check_pair_lists(
+    check_lists(
         &rt,
         Setting {
             demands: [-200, 1_000, 40],
@@ -357,27 +333,22 @@ fn residues_of_three_buses(rt: HostRuntime) -> Result<(), Fail> {
             },
         ),
         &[
-            PairList([HIGH, 0, 0], [0, 0], [0, 0], Figure(-3_204_999_948_448_000)),
-            PairList([HIGH, 0, 0], [0, 0], [1, 0], Refused(16, 0)),
-            PairList([HIGH, 0, 0], [0, 0], [0, 1], Refused(16, 0)),
-            PairList([LOW, 0, 0], [0, 0], [0, -1], Refused(16, 0)),
-            PairList(
-                [0, LOW, HIGH],
-                [0, 0],
-                [0, 0],
-                Figure(-3_203_495_017_980_000),
-            ),
-            PairList(
+            List([HIGH, 0, 0], [0, 0], [0, 0], Ok(-3_204_999_948_448_000)),
+            List([HIGH, 0, 0], [0, 0], [1, 0], Err(Refused(16, 0))),
+            List([HIGH, 0, 0], [0, 0], [0, 1], Err(Refused(16, 0))),
+            List([LOW, 0, 0], [0, 0], [0, -1], Err(Refused(16, 0))),
+            List([0, LOW, HIGH], [0, 0], [0, 0], Ok(-3_203_495_017_980_000)),
+            List(
                 [HIGH, LOW, HIGH],
                 [0, 0],
                 [0, 0],
-                Figure(-3_208_494_887_998_000),
+                Ok(-3_208_494_887_998_000),
             ),
-            PairList([HIGH, LOW, HIGH], [0, 0], [1, -1], Refused(16, 1)),
-            PairList([HIGH, HIGH, LOW], [0, 0], [-1, 1], Refused(16, 2)),
-            PairList([LOW, HIGH, LOW], [0, 0], [-1, 1], Refused(16, 1)),
-            PairList([HIGH, LOW, 0], [0, 0], [1, 0], Refused(16, 0)),
-            PairList([0, 0, 1_000_001], [0, 0], [0, 0], Refused(4, 2)),
+            List([HIGH, LOW, HIGH], [0, 0], [1, -1], Err(Refused(16, 1))),
+            List([HIGH, HIGH, LOW], [0, 0], [-1, 1], Err(Refused(16, 2))),
+            List([LOW, HIGH, LOW], [0, 0], [-1, 1], Err(Refused(16, 1))),
+            List([HIGH, LOW, 0], [0, 0], [1, 0], Err(Refused(16, 0))),
+            List([0, 0, 1_000_001], [0, 0], [0, 0], Err(Refused(4, 2))),
         ],
     )
 }
@@ -393,11 +364,11 @@ fn angle_charges(rt: HostRuntime) -> Result<(), Fail> {
             ..LINE
         }),
         &[
-            List(30, 30, 0, 0, Figure(2_038_000)),
-            List(30, 30, 0, 5, Figure(-13_962_250)),
-            List(30, 30, 0, -5, Figure(-13_962_350)),
-            List(30, 35, 0, 5, Figure(2_030_250)),
-            List(35, 30, 0, -5, Figure(2_033_650)),
+            List([30, 30], [0], [0], Ok(2_038_000)),
+            List([30, 30], [0], [5], Ok(-13_962_250)),
+            List([30, 30], [0], [-5], Ok(-13_962_350)),
+            List([30, 35], [0], [5], Ok(2_030_250)),
+            List([35, 30], [0], [-5], Ok(2_033_650)),
         ],
     )?;
     check_lists(
@@ -408,8 +379,8 @@ fn angle_charges(rt: HostRuntime) -> Result<(), Fail> {
             ..LINE
         }),
         &[
-            List(30, 30, 0, 5, Figure(-13_962_100)),
-            List(30, 30, 0, -5, Figure(-13_961_950)),
+            List([30, 30], [0], [5], Ok(-13_962_100)),
+            List([30, 30], [0], [-5], Ok(-13_961_950)),
         ],
     )?;
     check_lists(
@@ -420,8 +391,8 @@ fn angle_charges(rt: HostRuntime) -> Result<(), Fail> {
             ..LINE
         }),
         &[
-            List(30, 30, 0, 5, Figure(-13_961_950)),
-            List(30, 30, 0, -5, Figure(-13_962_100)),
+            List([30, 30], [0], [5], Ok(-13_961_950)),
+            List([30, 30], [0], [-5], Ok(-13_962_100)),
         ],
     )
 }
@@ -438,13 +409,13 @@ fn shift_and_congestion_charges(rt: HostRuntime) -> Result<(), Fail> {
             ..LINE
         }),
         &[
-            List(30, 30, 0, 0, Figure(2_038_000)),
-            List(30, 31, 1, 0, Figure(2_037_700)),
-            List(31, 30, -1, 0, Figure(2_036_400)),
-            List(30, 33, 0, 30, Figure(-189_962_600)),
-            List(33, 30, 0, -30, Figure(-189_965_300)),
-            List(30, 30, 3, -30, Figure(-189_965_300)),
-            List(30, 30, -3, 30, Figure(-189_963_500)),
+            List([30, 30], [0], [0], Ok(2_038_000)),
+            List([30, 31], [1], [0], Ok(2_037_700)),
+            List([31, 30], [-1], [0], Ok(2_036_400)),
+            List([30, 33], [0], [30], Ok(-189_962_600)),
+            List([33, 30], [0], [-30], Ok(-189_965_300)),
+            List([30, 30], [3], [-30], Ok(-189_965_300)),
+            List([30, 30], [-3], [30], Ok(-189_963_500)),
         ],
     )?;
     check_lists(
@@ -456,10 +427,10 @@ fn shift_and_congestion_charges(rt: HostRuntime) -> Result<(), Fail> {
             ..LINE
         }),
         &[
-            List(30, 31, 1, 0, Figure(-97_961_500)),
-            List(31, 30, -1, 0, Figure(-97_962_800)),
-            List(30, 33, 0, 30, Figure(-237_963_500)),
-            List(33, 30, 0, -30, Figure(-141_964_400)),
+            List([30, 31], [1], [0], Ok(-97_961_500)),
+            List([31, 30], [-1], [0], Ok(-97_962_800)),
+            List([30, 33], [0], [30], Ok(-237_963_500)),
+            List([33, 30], [0], [-30], Ok(-141_964_400)),
         ],
     )
 }
@@ -467,7 +438,7 @@ fn shift_and_congestion_charges(rt: HostRuntime) -> Result<(), Fail> {
 // Each bus price is charged at the tolerance, whatever its sign.
 #[test]
 fn tolerance_charges(rt: HostRuntime) -> Result<(), Fail> {
-    check_lists(&rt, PLAIN, &[List(30, -31, 0, -61, Figure(-390_283_500))])?;
+    check_lists(&rt, PLAIN, &[List([30, -31], [0], [-61], Ok(-390_283_500))])?;
     check_lists(
         &rt,
         Setting {
@@ -475,9 +446,9 @@ fn tolerance_charges(rt: HostRuntime) -> Result<(), Fail> {
             ..PLAIN
         },
         &[
-            List(30, -31, 0, -61, Figure(-390_283_561)),
-            List(-30, 31, 0, 61, Figure(-588_343_561)),
-            List(0, 0, 0, 0, Figure(-78_430_000)),
+            List([30, -31], [0], [-61], Ok(-390_283_561)),
+            List([-30, 31], [0], [61], Ok(-588_343_561)),
+            List([0, 0], [0], [0], Ok(-78_430_000)),
         ],
     )?;
     check_lists(
@@ -487,9 +458,9 @@ fn tolerance_charges(rt: HostRuntime) -> Result<(), Fail> {
             ..PLAIN
         },
         &[
-            List(30, -31, 0, -61, Figure(-396_383_500)),
-            List(HIGH, HIGH, 0, 0, Figure(-9_688_687_998_000)),
-            List(LOW, LOW, 0, 0, Figure(-7_694_857_980_000)),
+            List([30, -31], [0], [-61], Ok(-396_383_500)),
+            List([HIGH, HIGH], [0], [0], Ok(-9_688_687_998_000)),
+            List([LOW, LOW], [0], [0], Ok(-7_694_857_980_000)),
         ],
     )
 }
@@ -497,7 +468,7 @@ fn tolerance_charges(rt: HostRuntime) -> Result<(), Fail> {
 // Prices, weights, residue, shifts, ratings, demands, tolerance and costs at their limits at once.
 #[test]
 fn floors_at_every_limit(rt: HostRuntime) -> Result<(), Fail> {
-    check_pair_lists(
+    check_lists(
         &rt,
         Setting {
             demands: [-100_000_000, 100_000_000, 0],
@@ -518,27 +489,27 @@ fn floors_at_every_limit(rt: HostRuntime) -> Result<(), Fail> {
             },
         ),
         &[
-            PairList(
+            List(
                 [HIGH, HIGH, 0],
                 [HIGH, LOW],
                 [100_000_000, 100_000_000],
-                Figure(-35_295_200_000_000_000),
+                Ok(-35_295_200_000_000_000),
             ),
-            PairList(
+            List(
                 [LOW, LOW, 0],
                 [LOW, HIGH],
                 [-100_000_000, -100_000_000],
-                Figure(26_139_800_000_000_000),
+                Ok(26_139_800_000_000_000),
             ),
-            PairList(
+            List(
                 [HIGH, HIGH, 0],
                 [HIGH, LOW],
                 [100_000_000, 100_000_001],
-                Refused(4, 1),
+                Err(Refused(4, 1)),
             ),
         ],
     )?;
-    check_pair_lists(
+    check_lists(
         &rt,
         Setting {
             demands: [-100_000_000, 100_000_000, 0],
@@ -559,23 +530,23 @@ fn floors_at_every_limit(rt: HostRuntime) -> Result<(), Fail> {
             },
         ),
         &[
-            PairList(
+            List(
                 [HIGH, HIGH, 0],
                 [HIGH, LOW],
                 [100_000_000, 100_000_000],
-                Figure(26_144_800_000_000_000),
+                Ok(26_144_800_000_000_000),
             ),
-            PairList(
+            List(
                 [LOW, LOW, 0],
                 [LOW, HIGH],
                 [-100_000_000, -100_000_000],
-                Figure(-35_300_200_000_000_000),
+                Ok(-35_300_200_000_000_000),
             ),
-            PairList(
+            List(
                 [999_999, HIGH, 0],
                 [HIGH, LOW],
                 [100_000_000, 100_000_000],
-                Figure(26_144_860_160_100_000),
+                Ok(26_144_860_160_100_000),
             ),
         ],
     )

@@ -1,6 +1,7 @@
 // A case of two or three buses, with a stepped machine at the first and a curved one at the second, and of one or two branches that leave the first.
+use build::rows::{BranchRow, BusRow};
 use curved::curved::Curved;
-use measure::{Grains, Microradians, Watts};
+use measure::{Microradians, Watts};
 use names::branch::BranchName;
 use network::branch::{Branch, Ends};
 use network::bus::Bus;
@@ -9,21 +10,18 @@ use network::refusal::Refusal;
 use std::test::Fail;
 use stepped::stepped::Stepped;
 
-// What judging a dispatch or the floor of a price list answers: grains, or the number of a refusal and its row.
-#[derive(Clone, Copy, PartialEq, Eq, Debug)]
-pub enum Answer {
-    Figure(i64),
-    Refused(u8, usize),
-}
+// A refusal, by its number and the row where it stands.
+#[derive(Clone, Copy, PartialEq, Eq, Debug, Drop)]
+pub struct Refused(pub u8, pub usize);
 
-impl Answer {
-    pub(crate) fn of(res: Result<Grains, Refusal>) -> Self {
-        match res {
-            Ok(figure) => Answer::Figure(figure.0),
-            Err(refusal) => Answer::Refused(refusal.number(), refusal.place()),
-        }
+impl From<Refusal> for Refused {
+    fn from(refusal: Refusal) -> Self {
+        Refused(refusal.number(), refusal.place())
     }
 }
+
+// What judging a dispatch or the floor of a price list answers: grains, or a refusal.
+pub type Answer = Result<i64, Refused>;
 
 // The numbers of a branch from the first bus to the bus in row `to`.
 #[derive(Clone, Copy)]
@@ -37,7 +35,7 @@ pub struct Line {
     pub service: bool,
 }
 
-// The numbers of a case. It has the first nb of the buses and the first nl of the lines.
+// The numbers of a case. It has the first nb of the buses and the first nl of the lines; the rows after them stand in the tables unread.
 #[derive(Clone, Copy)]
 pub struct Setting {
     pub tolerance: u32,
@@ -111,30 +109,12 @@ pub const WIDEST: Setting = Setting {
 
 impl Line {
     // The branch of these numbers, where each is in its range.
-    fn branch(&self, circuit: u8) -> Result<Branch, Fail> {
-        if circuit < 1
-            || self.to > 2
-            || self.susceptance < 1
-            || self.susceptance > 1_000_000
-            || self.shift.0 < -1_600_000
-            || self.shift.0 > 1_600_000
-            || self.rating.0 < 0
-            || self.rating.0 > 100_000_000
-            || self.angmin.0 < -6_400_000
-            || self.angmin.0 > self.angmax.0
-            || self.angmax.0 > 6_400_000
-        {
-            return Err(Fail::new("a number of a branch is outside its range"));
-        }
-        Ok(Branch {
+    fn branch(&self, circuit: u32) -> Result<Branch, Fail> {
+        let row = BranchRow {
             name: BranchName {
-                circuit: circuit as u32,
+                circuit,
                 from: 1,
-                to: self.to as u32 + 1,
-            },
-            ends: Ends {
-                from: 0,
-                to: self.to,
+                to: u32::from(self.to) + 1,
             },
             susceptance: self.susceptance,
             shift: self.shift,
@@ -142,19 +122,25 @@ impl Line {
             angmin: self.angmin,
             angmax: self.angmax,
             service: self.service,
-        })
+        };
+        let ends = Ends {
+            from: 0,
+            to: self.to,
+        };
+        row.branch(ends)
+            .filter(|branch| branch.ends.to <= 2)
+            .ok_or_else(|| Fail::new("a number of a branch is outside its range"))
     }
 }
 
 // The bus of these numbers, where each is in its range.
-fn bus(name: u8, demand: i64) -> Result<Bus, Fail> {
-    if name < 1 || demand < -100_000_000 || demand > 100_000_000 {
-        return Err(Fail::new("a number of a bus is outside its range"));
-    }
-    Ok(Bus {
-        name: name as u32,
+fn bus(name: u32, demand: i64) -> Result<Bus, Fail> {
+    let row = BusRow {
+        name,
         demand: Watts(demand),
-    })
+    };
+    row.bus()
+        .ok_or_else(|| Fail::new("a number of a bus is outside its range"))
 }
 
 // The tables of a case.
@@ -202,22 +188,20 @@ impl Setting {
 
     // The case in its tables.
     pub(crate) fn case<'a>(&self, tables: &'a Tables) -> Case<'a, Stepped, Curved> {
-        let first = Machines {
-            rows: &tables.stepped,
-            places: &tables.first,
-            count: 1,
-        };
-        let second = Machines {
-            rows: &tables.curved,
-            places: &tables.second,
-            count: 1,
-        };
         Case {
             tolerance: self.tolerance,
             buses: &tables.buses,
             nb: self.nb,
-            first,
-            second,
+            first: Machines {
+                rows: &tables.stepped,
+                places: &tables.first,
+                count: 1,
+            },
+            second: Machines {
+                rows: &tables.curved,
+                places: &tables.second,
+                count: 1,
+            },
             branches: &tables.branches,
             nl: self.nl,
         }

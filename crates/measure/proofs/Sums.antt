@@ -319,16 +319,25 @@ unfolding IsSumOf
 sum_of-more gives n a b z s k e = subst (λ m. IsSumOf gives m z) (sym (add-one n)) (a, b, s, k, e)
 
 -- what is given at each number is f of it: the sum is the sum of f
-pub sum_of-sum_to : (f : ℕ → ℤ) (gives : ℕ → ℤ → Type 0) (n : ℕ) (z : ℤ) → ((i : ℕ) (x : ℤ) → i < n → gives i x → x ≡ f i) → IsSumOf gives n z → z ≡ sum_to f n
+pub sum_of-sum_to : (f : ℕ → ℤ) (gives : ℕ → ℤ → Type 0) (n : ℕ) (z : ℤ) → IsSumOf gives n z → ((i : ℕ) (x : ℤ) → i < n → gives i x → x ≡ f i) → z ≡ sum_to f n
 unfolding IsSumOf sum_to
-sum_of-sum_to f gives zero z h s = s
-sum_of-sum_to f gives (suc n) z h s =
-    let i = sum_of-sum_to f gives n s.0 (λ i x l. h i x (omega arith)) s.2 in
+sum_of-sum_to f gives zero z s h = s
+sum_of-sum_to f gives (suc n) z s h =
+    let i = sum_of-sum_to f gives n s.0 s.2 (λ i x l. h i x (omega arith)) in
     let j = h n s.1 (omega arith) s.3 in
     s.4 ∙ (λ k. i k +ℤ j k)
 
 -- what is given at each number is a test of it: the lowest that passes
-pub first_of-lowest : (test : ℕ → Bool) (gives : ℕ → Bool → Type 0) (n : ℕ) (r : Option ℕ) → ((i : ℕ) (b : Bool) → i < n → gives i b → b ≡ test i) → IsFirstOf gives n r → Lowest (λ i. (i < n) × (test i ≡ true)) r
-first_of-lowest test gives n None h f = λ i k. let e = h i false k.0 (f i k.0) in cc
-first_of-lowest test gives n (Some i) h f =
-    ((f.0, sym (h i true f.0 f.1)), λ j l k. let e = h j false k.0 (f.2 j l) in cc)
+pub first_of-lowest : (test : ℕ → Bool) (gives : ℕ → Bool → Type 0) (n : ℕ) (r : Option ℕ) → IsFirstOf gives n r → ((i : ℕ) (b : Bool) → i < n → gives i b → b ≡ test i) → Lowest (λ i. (i < n) × (test i ≡ true)) r
+first_of-lowest test gives n None f h = λ i k. let e = h i false k.0 (f.lowest i k.0) in cc
+first_of-lowest test gives n (Some i) f h =
+    let (l, p, q) = f.lowest in
+    ((l, sym (h i true l p)), λ j m k. let e = h j false k.0 (q j m) in cc)
+
+-- what is f of the item that is got from row i is the row's value
+pub row_got : {X Y : Type 0} (y : Y) (f : Row X → Y) (xs : List X) (i : ℕ) (x : X) (z : Y) → (i < length xs) × ((d : X) → x ≡ get_or xs i d) → z ≡ f (record { item = x; row = i }) → z ≡ row_or y f 0 xs i
+row_got y f xs i x z h e = row_is y f xs i z h.0 (λ v s. e ∙ ap (λ b. f (record { item = b; row = i })) (h.1 v ∙ sym (stands-get_or xs i v v s)))
+
+-- what is given at each number is the row's value: the sum is that of f over the rows
+pub row_sum : {X : Type 0} (f : Row X → ℤ) (xs : List X) (gives : ℕ → ℤ → Type 0) (n : ℕ) (z : ℤ) → IsSumOf gives n z → ((i : ℕ) (x : ℤ) → i < n → gives i x → x ≡ row_value f xs i) → z ≡ total f (rows (take n xs))
+row_sum f xs gives n z s h = sum_of-sum_to (row_value f xs) gives n z s h ∙ sum_rows f xs n

@@ -1,5 +1,5 @@
 -- Tables: their rows with their numbers, sums over a table, what holds of each row, and the lowest row of which something holds.
-use Rattle.std.specs.Prelude.{◌≡◌, ℕ, zero, suc, ◌<◌, Bool, true, false, List, [], ◌∷◌, ℤ, pos, ◌+ℤ◌, Some, None, Option}
+use Rattle.std.specs.Prelude.{◌≡◌, ℕ, zero, suc, ◌<◌, Bool, true, false, List, [], ◌∷◌, ℤ, pos, ◌+ℤ◌, Some, None, Option, MatchOption}
 use Rattle.measure.specs.Range.{Within}
 use Rattle.measure.specs.Fraction.{Fraction, whole, ◌+ᶠ◌}
 
@@ -84,6 +84,5 @@ IsSumOf gives zero z = z ≡ pos 0
 IsSumOf gives (suc n) z = (a : ℤ) × (b : ℤ) × IsSumOf gives n a × gives n b × (z ≡ a +ℤ b)
 
 -- the lowest of the first n numbers at which a test answers true, or none where it answers false at each
-abbrev pub IsFirstOf : (ℕ → Bool → Type 0) → ℕ → Option ℕ → Type 0
-IsFirstOf gives n None = (i : ℕ) → i < n → gives i false
-IsFirstOf gives n (Some i) = (i < n) × gives i true × ((j : ℕ) → j < i → gives j false)
+pub record IsFirstOf (gives : ℕ → Bool → Type 0) (n : ℕ) (r : Option ℕ) : Type 0 where
+  pub lowest : MatchOption r ((i : ℕ) → i < n → gives i false) (λ i. (i < n) × gives i true × ((j : ℕ) → j < i → gives j false))

@@ -9,8 +9,7 @@ use measure::range::is_between;
 pub fn are_in_range(bus: u32, lo: Watts, hi: Watts) -> bool
     ensures { result ≡ limits_in_range bus lo.0 hi.0 }
 {
-    (1 <= bus)
-        & (bus <= 255)
+    (1..=255).contains(&bus)
         & is_between(-100_000_000, 100_000_000, lo.0)
         & is_between(-100_000_000, 100_000_000, hi.0)
         & (lo.0 <= hi.0)

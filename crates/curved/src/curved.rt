@@ -78,6 +78,7 @@ impl Machine for Curved {
         limits::allow(self.is_in_range(), self.lo, self.hi, p)
     }
 
+    // In each kind, not once for all: a cost passed as a closure would have to state that it is called in range.
     fn cost(&self, p: Watts) -> Option<Grains> {
         if !self.allows(p) {
             None

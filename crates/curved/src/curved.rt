@@ -1,11 +1,10 @@
 // A machine with a quadratic cost.
-ghost use Rattle.std.specs.Prelude.{◌≡◌};
-ghost use Rattle.measure.specs.Range.{Within};
+ghost use Rattle.std.specs.Prelude.{◌≡◌, ◌-ℤ◌};
 ghost use Rattle.curved.specs.Quadratic.{Ranges, in_range, least_over, curved_meaning};
 ghost use Rattle.curved.specs.Keeping.{curved_lawful};
 
-use crate::quadratic::{cost_up, margin_down, vertex_down};
-use machine::limits;
+use crate::quadratic::Quadratic;
+use machine::limits::{self, Power};
 use machine::machine::Machine;
 use measure::price::Price;
 use measure::range::is_between;
@@ -34,18 +33,34 @@ impl Curved {
             & is_between(1, 500, self.c2)
     }
 
-    // The least of cost - q × power over the machine's limits, rounded down; b is q - c1.
-    fn least_margin(&self, b: i64) -> i64
-        requires ok { Ranges self.now }
-        requires slope { Within 2000000 b }
-        ensures { result ≡ least_over self.now b }
+    // Its cost less q × power.
+    fn less(&self, q: Price) -> Quadratic
+        requires { Ranges self.now }
+        ensures fixed { result.c0 ≡ self.now.c0 }
+        ensures slope { result.slope ≡ self.now.c1 -ℤ q.value }
+        ensures square { result.c2 ≡ self.now.c2 }
     {
-        if 1_000_000 * b <= 2 * self.c2 * self.lo.0 {
-            margin_down(self.c0, b, self.c2, self.lo.0)
-        } else if 2 * self.c2 * self.hi.0 <= 1_000_000 * b {
-            margin_down(self.c0, b, self.c2, self.hi.0)
+        Quadratic {
+            c0: self.c0,
+            slope: self.c1 - q.get(),
+            c2: self.c2,
+        }
+    }
+
+    // The least of cost - q × power over the machine's limits, rounded down.
+    fn least_margin(&self, q: Price) -> i64
+        requires { Ranges self.now }
+        ensures { result ≡ least_over self.now (q.value -ℤ self.now.c1) }
+    {
+        let net = self.less(q);
+        let lo = Power { watts: self.lo.0 };
+        let hi = Power { watts: self.hi.0 };
+        if 0 <= net.rise_at(lo) {
+            net.down_at(lo)
+        } else if net.rise_at(hi) <= 0 {
+            net.down_at(hi)
         } else {
-            vertex_down(self.c0, b, self.c2)
+            net.least_down()
         }
     }
 }
@@ -60,18 +75,16 @@ impl Machine for Curved {
     }
 
     fn allows(&self, p: Watts) -> bool {
-        if self.is_in_range() {
-            is_between(self.lo.0, self.hi.0, p.0)
-        } else {
-            p.0 == 0
-        }
+        limits::allow(self.is_in_range(), self.lo, self.hi, p)
     }
 
+    // In each kind, not once for all: a cost passed as a closure would have to state that it is called in range.
     fn cost(&self, p: Watts) -> Option<Grains> {
         if !self.allows(p) {
             None
         } else if self.is_in_range() {
-            Some(Grains(cost_up(self.c0, self.c1, self.c2, p.0)))
+            let p = Power { watts: p.0 };
+            Some(Grains(self.less(Price::zero()).up_at(p)))
         } else {
             Some(Grains(0))
         }
@@ -79,7 +92,7 @@ impl Machine for Curved {
 
     fn margin(&self, q: Price) -> Grains {
         if self.is_in_range() {
-            Grains(self.least_margin(q.get() - self.c1))
+            Grains(self.least_margin(q))
         } else {
             Grains(0)
         }

@@ -1,64 +1,81 @@
-// Arithmetic of a quadratic cost 1,000,000 c0 + c1 p + c2 p p / 1,000,000, within the ranges of a row.
-ghost use Rattle.std.specs.Prelude.{◌≡◌, pos, ◌+ℤ◌, ◌-ℤ◌, ◌*ℤ◌, neg_ℤ, ◌≤ℤ◌};
+// Arithmetic of a quadratic cost, within the ranges of a row.
+ghost use Rattle.std.specs.Prelude.{◌≡◌, pos, ◌+ℤ◌, ◌*ℤ◌, neg_ℤ, ◌≤ℤ◌};
 ghost use Rattle.measure.specs.Range.{Within, floor_div, ceil_div};
 
-// c2 p p.
-fn square(c2: i64, p: i64) -> i64
-    requires coefficient { Within 500 c2 }
-    requires power { Within 100000000 p }
-    ensures { result ≡ c2 *ℤ p *ℤ p }
+use machine::limits::Power;
+
+// A number of millionths as a whole number, rounded down.
+fn rounded_down(millionths: i64) -> i64
+    requires { Within 5000000000000000000 millionths }
+    ensures value { result ≡ floor_div millionths (pos 1000000) }
+    ensures size { Within 5000000000000 result }
 {
-    c2 * p * p
+    millionths.div_euclid(1_000_000)
 }
 
 // A number of millionths as a whole number, rounded up.
 fn rounded_up(millionths: i64) -> i64
     requires { Within 5000000000000000000 millionths }
-    ensures { result ≡ ceil_div millionths (pos 1000000) }
+    ensures value { result ≡ ceil_div millionths (pos 1000000) }
+    ensures size { Within 5000000000000 result }
 {
-    -(-millionths).div_euclid(1_000_000)
+    -rounded_down(-millionths)
 }
 
-// A number of millionths as a whole number, rounded down.
-fn rounded_down(millionths: i64) -> i64
-    requires { Within 5000000000000000000 millionths }
-    ensures { result ≡ floor_div millionths (pos 1000000) }
-{
-    millionths.div_euclid(1_000_000)
+// A cost of 1,000,000 c0 + slope p + c2 p p / 1,000,000 at p watts: a machine's, or what is left of it less a price times p.
+#[derive(Clone, Copy)]
+pub(crate) struct Quadratic {
+    pub c0: i64,
+    pub slope: i64,
+    pub c2: i64,
+    pub ghost fixed: { Within 100000000 c0 },
+    pub ghost sloped: { Within 2000000 slope },
+    pub ghost convex: { (pos 1 ≤ℤ c2) × (c2 ≤ℤ pos 500) },
 }
 
-// The cost at p, rounded up.
-pub(crate) fn cost_up(c0: i64, c1: i64, c2: i64, p: i64) -> i64
-    requires fixed { Within 100000000 c0 }
-    requires slope { Within 1000000 c1 }
-    requires coefficient { Within 500 c2 }
-    requires power { Within 100000000 p }
-    ensures { result ≡ pos 1000000 *ℤ c0 +ℤ c1 *ℤ p +ℤ ceil_div (c2 *ℤ p *ℤ p) (pos 1000000) }
-{
-    let whole = 1_000_000 * c0 + c1 * p;
-    whole + rounded_up(square(c2, p))
-}
+impl Quadratic {
+    // 1,000,000 c0 + slope p.
+    fn line_at(self, p: Power) -> i64
+        ensures value { result ≡ pos 1000000 *ℤ self.c0 +ℤ self.slope *ℤ p.watts }
+        ensures size { Within 300000000000000 result }
+    {
+        1_000_000 * self.c0 + self.slope * p.watts
+    }
 
-// The cost less (b + c1) p at p, rounded down.
-pub(crate) fn margin_down(c0: i64, b: i64, c2: i64, p: i64) -> i64
-    requires fixed { Within 100000000 c0 }
-    requires slope { Within 2000000 b }
-    requires coefficient { Within 500 c2 }
-    requires power { Within 100000000 p }
-    ensures { result ≡ pos 1000000 *ℤ c0 -ℤ b *ℤ p +ℤ floor_div (c2 *ℤ p *ℤ p) (pos 1000000) }
-{
-    let whole = 1_000_000 * c0 - b * p;
-    whole + rounded_down(square(c2, p))
-}
+    // c2 p p.
+    fn square_at(self, p: Power) -> i64
+        ensures value { result ≡ self.c2 *ℤ p.watts *ℤ p.watts }
+        ensures size { Within 5000000000000000000 result }
+    {
+        self.c2 * p.watts * p.watts
+    }
 
-// The same at the power where it is least.
-pub(crate) fn vertex_down(c0: i64, b: i64, c2: i64) -> i64
-    requires fixed { Within 100000000 c0 }
-    requires slope { Within 2000000 b }
-    requires convex { pos 1 ≤ℤ c2 }
-    ensures { result ≡ pos 1000000 *ℤ c0 +ℤ floor_div (neg_ℤ (pos 250000 *ℤ b *ℤ b)) c2 }
-{
-    let whole = 1_000_000 * c0;
-    let rest = -(250_000 * b * b);
-    whole + rest.div_euclid(c2)
+    // The cost at p, rounded up.
+    pub(crate) fn up_at(self, p: Power) -> i64
+        ensures { result ≡ pos 1000000 *ℤ self.c0 +ℤ self.slope *ℤ p.watts +ℤ ceil_div (self.c2 *ℤ p.watts *ℤ p.watts) (pos 1000000) }
+    {
+        self.line_at(p) + rounded_up(self.square_at(p))
+    }
+
+    // The cost at p, rounded down.
+    pub(crate) fn down_at(self, p: Power) -> i64
+        ensures { result ≡ pos 1000000 *ℤ self.c0 +ℤ self.slope *ℤ p.watts +ℤ floor_div (self.c2 *ℤ p.watts *ℤ p.watts) (pos 1000000) }
+    {
+        self.line_at(p) + rounded_down(self.square_at(p))
+    }
+
+    // By how many millionths a watt it rises at p.
+    pub(crate) fn rise_at(self, p: Power) -> i64
+        ensures { result ≡ pos 1000000 *ℤ self.slope +ℤ pos 2 *ℤ self.c2 *ℤ p.watts }
+    {
+        1_000_000 * self.slope + 2 * self.c2 * p.watts
+    }
+
+    // The cost at the power where it is least, rounded down.
+    pub(crate) fn least_down(self) -> i64
+        ensures { result ≡ pos 1000000 *ℤ self.c0 +ℤ floor_div (neg_ℤ (pos 250000 *ℤ self.slope *ℤ self.slope)) self.c2 }
+    {
+        let square = 250_000 * self.slope * self.slope;
+        1_000_000 * self.c0 + (-square).div_euclid(self.c2)
+    }
 }

@@ -16,8 +16,7 @@ struct AtPowers(i64, i64, Result<i64, usize>);
 
 fn cost_of_two<M: Machine>(machines: &[M; 2], first: i64, second: i64) -> Result<i64, usize> {
     let powers = [first, second];
-    let grains = total_cost(machines, &Table { values: &powers })?;
-    Ok(grains.0)
+    total_cost(machines, &Table { values: &powers }).map(|grains| grains.0)
 }
 
 #[cfg(test)]
@@ -50,12 +49,8 @@ fn check_margins_of_two<M: Machine>(
 ) -> Result<(), Fail> {
     for row in table {
         let AtPrices(first, second, expected) = *row;
-        let Some(first) = Price::new(first) else {
-            return Err(Fail::new("no price"));
-        };
-        let Some(second) = Price::new(second) else {
-            return Err(Fail::new("no price"));
-        };
+        let first = Price::new(first).ok_or_else(|| Fail::new("no price"))?;
+        let second = Price::new(second).ok_or_else(|| Fail::new("no price"))?;
         assert_eq!(rt; margin_of_two(machines, first, second), expected);
     }
     Ok(())

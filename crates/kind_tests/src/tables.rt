@@ -21,10 +21,7 @@ pub(crate) fn check_costs<M: Machine>(
 ) -> Result<(), Fail> {
     for row in table {
         let AtPower(power, expected) = *row;
-        let cost = match machine.cost(Watts(power)) {
-            Some(grains) => Some(grains.0),
-            None => None,
-        };
+        let cost = machine.cost(Watts(power)).map(|grains| grains.0);
         assert_eq!(rt; cost, expected);
         assert_eq!(rt; machine.allows(Watts(power)), expected.is_some());
     }
@@ -39,9 +36,7 @@ pub(crate) fn check_margins<M: Machine>(
 ) -> Result<(), Fail> {
     for row in table {
         let AtPrice(price, expected) = *row;
-        let Some(price) = Price::new(price) else {
-            return Err(Fail::new("no price"));
-        };
+        let price = Price::new(price).ok_or_else(|| Fail::new("no price"))?;
         assert_eq!(rt; machine.margin(price).0, expected);
     }
     Ok(())

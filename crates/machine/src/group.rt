@@ -13,10 +13,8 @@ pub fn total_cost<M: Machine, C: Column>(machines: &[M], powers: &C) -> Result<G
     ensures { MatchResult result (λ t. Counted M.meaning machines.now (C.value powers.now) t.0) (λ i. NotAllowedAt M.meaning machines.now (C.value powers.now) i) }
 {
     let mut total = 0;
-    for i in 0..machines.len() {
-        let Some(cost) = machines[i].cost(Watts(powers.at(i))) else {
-            return Err(i);
-        };
+    for (i, machine) in machines.iter().enumerate() {
+        let cost = machine.cost(Watts(powers.at(i))).ok_or(i)?;
         total += cost.0;
     }
     Ok(Grains(total))
@@ -29,11 +27,11 @@ pub fn total_margin<M: Machine, C: Column>(machines: &[M], prices: &C) -> Grains
     ensures { result.0 ≡ total_margins M.meaning machines.now (C.value prices.now) }
 {
     let mut total = 0;
-    for i in 0..machines.len() {
+    for (i, machine) in machines.iter().enumerate() {
         let Some(price) = Price::new(prices.at(i)) else {
             unreachable()
         };
-        total += machines[i].margin(price).0;
+        total += machine.margin(price).0;
     }
     Grains(total)
 }

@@ -1,17 +1,37 @@
 // The bus and the limits of a machine that may run at every power between two.
-ghost use Rattle.std.specs.Prelude.{◌≡◌};
+ghost use Rattle.std.specs.Prelude.{◌≡◌, Decides};
+ghost use Rattle.measure.specs.Fraction.{whole, Between};
+ghost use Rattle.measure.specs.Range.{Within};
+ghost use Rattle.machine.specs.Idle.{allowed_if};
 ghost use Rattle.machine.specs.Limits.{limits_in_range};
 
 use measure::Watts;
 use measure::range::is_between;
 
+// A power within the widest limits, ±100,000,000 W.
+#[derive(Clone, Copy)]
+pub struct Power {
+    pub watts: i64,
+    pub ghost ok: { Within 100000000 watts },
+}
+
 // Whether the bus's name and both limits are in range, and the limits are not crossed.
 pub fn are_in_range(bus: u32, lo: Watts, hi: Watts) -> bool
     ensures { result ≡ limits_in_range bus lo.0 hi.0 }
 {
-    (1 <= bus)
-        & (bus <= 255)
+    (1..=255).contains(&bus)
         & is_between(-100_000_000, 100_000_000, lo.0)
         & is_between(-100_000_000, 100_000_000, hi.0)
         & (lo.0 <= hi.0)
+}
+
+// Whether a machine may run at p: from lo to hi where its row is in range, else only at 0 W.
+pub fn allow(is_in_range: bool, lo: Watts, hi: Watts, p: Watts) -> bool
+    ensures { Decides result (allowed_if is_in_range (Between lo.0 hi.0) (whole p.0)) }
+{
+    if is_in_range {
+        is_between(lo.0, hi.0, p.0)
+    } else {
+        p.0 == 0
+    }
 }

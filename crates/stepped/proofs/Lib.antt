@@ -1,4 +1,5 @@
 pub mod Sizes
 pub mod Slices
+pub mod Ordered
 pub mod RowTest
 pub mod StepLaw

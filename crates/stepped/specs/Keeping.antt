@@ -7,7 +7,7 @@ use Rattle.measure.specs.Fraction.{Fraction, whole, ◌-ᶠ◌, ◌·ᶠ◌, Bet
 use Rattle.measure.specs.Rows.{All}
 use Rattle.machine.specs.Meaning.{Lawful, Margin, Keeps}
 use Rattle.machine.specs.Limits.{limits_in_range}
-use Rattle.stepped.specs.Piecewise.{each_between, rising, never_falling, in_range, Ranges, Chain, Carried, Walkable, first, inner, piecewise, piecewise_whole, least_piecewise, stepped_meaning}
+use Rattle.stepped.specs.Piecewise.{each_between, rising, never_falling, in_range, Ranges, Chain, Carried, first, inner, piecewise, piecewise_whole, least_piecewise, stepped_meaning}
 use Rattle.stepped.specs.declared.stepped.Stepped.{Stepped}
 use Rattle.measure.proofs.Laws.{expand, lin, mul_one}
 use Rattle.measure.proofs.Order.{product_within, mul_mono, test_within}
@@ -156,10 +156,6 @@ module _ (m : Stepped) (ok : Ranges m) where
       limits_lawful m.lo.0 m.hi.0 ok.limits (piecewise m) (piecewise_whole m) (least_piecewise m)
       (λ x y s. record { cross = walk_same base (first m.points) (first m.slopes) (inner m m.points) (inner m m.slopes) x.num (pos x.den) y.num (pos y.den) (den_positive x) (den_positive y) ok.chain s.cross })
       answer_is answer_range margin_is margin_range
-
--- a row in range can be walked along
-pub walkable : (m : Stepped) → Ranges m → Walkable (pos 1000000 *ℤ m.c) (first m.points) (first m.slopes) (inner m m.points) (inner m m.slopes)
-walkable m ok = record { carried = carried m ok; point = ok.first_point; slope = ok.first_slope; points = ok.points; slopes = ok.slopes; chain = ok.chain }
 
 pub stepped_lawful : Keeps stepped_meaning
 stepped_lawful m = lawful_if (in_range m) (Between m.lo.0 m.hi.0) (piecewise m) (piecewise_whole m) (least_piecewise m) (λ e. lawful m (ranges m e))

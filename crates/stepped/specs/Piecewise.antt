@@ -54,15 +54,6 @@ walk base p s [] ts n d = base *ℤ d +ℤ s *ℤ (n -ℤ p *ℤ d)
 walk base p s (k ∷ ks) [] n d = base *ℤ d +ℤ s *ℤ (n -ℤ p *ℤ d)
 walk base p s (k ∷ ks) (t ∷ ts) n d = cond (int_le n (k *ℤ d)) (base *ℤ d +ℤ s *ℤ (n -ℤ p *ℤ d)) (walk (base +ℤ s *ℤ (k -ℤ p)) k t ks ts n d)
 
--- what a walk needs, so that 64 bits are enough
-pub record Walkable (base p s : ℤ) (ks ts : List ℤ) : Type 0 where
-  pub carried : Carried base p
-  pub point : Within 100000000 p
-  pub slope : Within 1000000 s
-  pub points : All (Within 100000000) ks
-  pub slopes : All (Within 1000000) ts
-  pub chain : Chain p ks
-
 -- cost - q × power at the whole power y, on the line through `base` at p
 abbrev pub net : ℤ → ℤ → ℤ → ℤ → ℤ → ℤ
 net base p s q y = base +ℤ s *ℤ (y -ℤ p) -ℤ q *ℤ y

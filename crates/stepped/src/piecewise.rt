@@ -1,128 +1,113 @@
 // Arithmetic of a cost in straight pieces, within the ranges of a row.
-ghost use Rattle.std.specs.Prelude.{◌≡◌, pos, ◌+ℤ◌, ◌-ℤ◌, ◌*ℤ◌};
+ghost use Rattle.std.specs.Prelude.{◌≡◌, ◌⊎◌, [], ◌∷◌, pos, ◌+ℤ◌, ◌-ℤ◌, ◌*ℤ◌, MatchOption};
 ghost use Rattle.measure.specs.Range.{Within};
-ghost use Rattle.stepped.specs.Piecewise.{each_between, rising, never_falling, Carried, Walkable, walk, net, least_walk};
+ghost use Rattle.measure.specs.Rows.{All};
+ghost use Rattle.stepped.specs.Piecewise.{each_between, Carried, Chain, walk, net, least_walk};
+ghost use Rattle.stepped.specs.Pieces.{All_within-prop, Chain-prop};
 
+use machine::limits::Power;
+use measure::price::Price;
 use measure::range::is_between;
 
 // Whether each number lies between low and high.
 pub(crate) fn all_between(low: i64, high: i64, xs: &[i64]) -> bool
     ensures { result ≡ each_between low high xs.now }
 {
-    let [x, rest @ ..] = xs else {
-        return true;
-    };
-    is_between(low, high, *x) & all_between(low, high, rest)
+    xs.iter().all(|x| is_between(low, high, *x))
 }
 
-// Whether each number is above the one before.
-pub(crate) fn is_rising(xs: &[i64]) -> bool
-    ensures { result ≡ rising xs.now }
-{
-    let [x, rest @ ..] = xs else {
-        return true;
-    };
-    let [y, ..] = rest else {
-        return true;
-    };
-    (*x < *y) & is_rising(rest)
+// A straight line: the cost at the point `from`, and its slope.
+#[derive(Clone, Copy)]
+pub(crate) struct Line {
+    pub cost: i64,
+    pub from: Power,
+    pub slope: i64,
+    pub ghost carried: { Carried cost from.watts },
+    pub ghost sloped: { Within 1000000 slope },
 }
 
-// Whether no number is below the one before.
-pub(crate) fn is_never_falling(xs: &[i64]) -> bool
-    ensures { result ≡ never_falling xs.now }
-{
-    let [x, rest @ ..] = xs else {
-        return true;
-    };
-    let [y, ..] = rest else {
-        return true;
-    };
-    (*x <= *y) & is_never_falling(rest)
-}
+impl Line {
+    // The cost at y.
+    fn at(self, y: Power) -> i64
+        ensures value { result ≡ self.cost +ℤ self.slope *ℤ (y.watts -ℤ self.from.watts) }
+        ensures size { Within 500000000000000 result }
+    {
+        self.cost + self.slope * (y.watts - self.from.watts)
+    }
 
-// The cost at y, on the line through `base` at p.
-fn on_line(base: i64, p: i64, s: i64, y: i64) -> i64
-    requires carried { Carried base p }
-    requires point { Within 100000000 p }
-    requires slope { Within 1000000 s }
-    requires power { Within 100000000 y }
-    ensures { result ≡ base +ℤ s *ℤ (y -ℤ p) }
-{
-    base + s * (y - p)
-}
-
-// The cost at y, where it is `base` at p and rises by s, and by the next slope after each point.
-pub(crate) fn cost_along(base: i64, p: i64, s: i64, points: &[i64], slopes: &[i64], y: i64) -> i64
-    requires sound { Walkable base p s points.now slopes.now }
-    requires power { Within 100000000 y }
-    ensures { result ≡ walk base p s points.now slopes.now y (pos 1) }
-{
-    let [k, points_after @ ..] = points else {
-        return on_line(base, p, s, y);
-    };
-    let [t, slopes_after @ ..] = slopes else {
-        return on_line(base, p, s, y);
-    };
-    if y <= *k {
-        on_line(base, p, s, y)
-    } else {
-        cost_along(
-            on_line(base, p, s, *k),
-            *k,
-            *t,
-            points_after,
-            slopes_after,
-            y,
-        )
+    // The cost less q y at y.
+    fn net_at(self, q: Price, y: Power) -> i64
+        ensures { result ≡ net self.cost self.from.watts self.slope q.value y.watts }
+    {
+        self.at(y) - q.get() * y.watts
     }
 }
 
-// The cost less q y at y, on the line through `base` at p.
-fn net_on_line(base: i64, p: i64, s: i64, q: i64, y: i64) -> i64
-    requires carried { Carried base p }
-    requires point { Within 100000000 p }
-    requires slope { Within 1000000 s }
-    requires price { Within 1000000 q }
-    requires power { Within 100000000 y }
-    ensures { result ≡ net base p s q y }
-{
-    on_line(base, p, s, y) - q * y
+// A cost that goes along a line, and by the next slope after each point.
+#[derive(Clone, Copy)]
+pub(crate) struct Pieces<'a> {
+    pub line: Line,
+    pub points: &'a [i64],
+    pub slopes: &'a [i64],
+    pub ghost ranged: { All (Within 100000000) points.now } by { All_within-prop 100000000 points.now },
+    pub ghost sloped: { All (Within 1000000) slopes.now } by { All_within-prop 1000000 slopes.now },
+    pub ghost rising: { Chain line.from.watts points.now } by { Chain-prop line.from.watts points.now },
 }
 
-// The least of cost - q × power from a to b: at a, at b or at a point between.
-pub(crate) fn least_along(
-    base: i64,
-    p: i64,
-    s: i64,
-    points: &[i64],
-    slopes: &[i64],
-    a: i64,
-    b: i64,
-    q: i64,
-) -> i64
-    requires sound { Walkable base p s points.now slopes.now }
-    requires low { Within 100000000 a }
-    requires high { Within 100000000 b }
-    requires price { Within 1000000 q }
-    ensures { result ≡ least_walk base p s points.now slopes.now a b q }
-{
-    let at_a = net_on_line(base, p, s, q, a);
-    let at_b = net_on_line(base, p, s, q, b);
-    let [k, points_after @ ..] = points else {
-        return at_a.min(at_b);
-    };
-    let [t, slopes_after @ ..] = slopes else {
-        return at_a.min(at_b);
-    };
-    if b <= *k {
-        return at_a.min(at_b);
+impl<'a> Pieces<'a> {
+    // The pieces from the next point on, or none where the line is the last.
+    fn next(self) -> Option<Pieces<'a>>
+        ensures { MatchOption result ((self.entry.points.now ≡ []) ⊎ (self.entry.slopes.now ≡ [])) (λ n. (n.line.cost ≡ self.entry.line.cost +ℤ self.entry.line.slope *ℤ (n.line.from.watts -ℤ self.entry.line.from.watts)) × (self.entry.points.now ≡ n.line.from.watts ∷ n.points.now) × (self.entry.slopes.now ≡ n.line.slope ∷ n.slopes.now)) }
+    {
+        let [point, points @ ..] = self.points else {
+            return None;
+        };
+        let [slope, slopes @ ..] = self.slopes else {
+            return None;
+        };
+        let from = Power { watts: *point };
+        let line = Line {
+            cost: self.line.at(from),
+            from,
+            slope: *slope,
+        };
+        Some(Pieces {
+            line,
+            points,
+            slopes,
+        })
     }
-    let next = on_line(base, p, s, *k);
-    if *k <= a {
-        least_along(next, *k, *t, points_after, slopes_after, a, b, q)
-    } else {
-        let rest = least_along(next, *k, *t, points_after, slopes_after, *k, b, q);
-        at_a.min(rest)
+
+    // The cost at y.
+    pub(crate) fn at(self, y: Power) -> i64
+        ensures { result ≡ walk self.entry.line.cost self.entry.line.from.watts self.entry.line.slope self.entry.points.now self.entry.slopes.now y.watts (pos 1) }
+    {
+        let Some(next) = self.next() else {
+            return self.line.at(y);
+        };
+        if y.watts <= next.line.from.watts {
+            self.line.at(y)
+        } else {
+            next.at(y)
+        }
+    }
+
+    // The least of cost - q × power from a to b: at a, at b or at a point between.
+    pub(crate) fn least(self, q: Price, a: Power, b: Power) -> i64
+        ensures { result ≡ least_walk self.entry.line.cost self.entry.line.from.watts self.entry.line.slope self.entry.points.now self.entry.slopes.now a.watts b.watts q.value }
+    {
+        let at_a = self.line.net_at(q, a);
+        let at_b = self.line.net_at(q, b);
+        let Some(next) = self.next() else {
+            return at_a.min(at_b);
+        };
+        let bend = next.line.from;
+        if b.watts <= bend.watts {
+            at_a.min(at_b)
+        } else if bend.watts <= a.watts {
+            next.least(q, a, b)
+        } else {
+            at_a.min(next.least(q, bend, b))
+        }
     }
 }

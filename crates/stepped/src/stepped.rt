@@ -1,12 +1,11 @@
 // A machine with a cost in straight pieces.
-ghost use Rattle.std.specs.Prelude.{◌≡◌, true};
-ghost use Rattle.measure.specs.Range.{Within};
-ghost use Rattle.stepped.specs.Piecewise.{in_range, Ranges, piecewise_whole, least_piecewise, stepped_meaning};
+ghost use Rattle.std.specs.Prelude.{◌≡◌, true, pos, ◌*ℤ◌};
+ghost use Rattle.stepped.specs.Piecewise.{in_range, Ranges, first, inner, stepped_meaning};
 ghost use Rattle.stepped.specs.StepLaw.{OneCost};
 ghost use Rattle.stepped.specs.Keeping.{stepped_lawful};
 
-use crate::piecewise::{all_between, cost_along, is_never_falling, is_rising, least_along};
-use machine::limits;
+use crate::piecewise::{Line, Pieces, all_between};
+use machine::limits::{self, Power};
 use machine::machine::Machine;
 use measure::price::Price;
 use measure::range::is_between;
@@ -40,47 +39,32 @@ impl Stepped {
         limits::are_in_range(self.bus, self.lo, self.hi)
             & is_between(-100_000_000, 100_000_000, self.c)
             & all_between(-100_000_000, 100_000_000, points)
-            & is_rising(points)
+            & points.is_sorted_by(|x, y| x < y)
             & all_between(-1_000_000, 1_000_000, slopes)
-            & is_never_falling(slopes)
+            & slopes.is_sorted_by(|x, y| x <= y)
     }
 
-    // The cost at the whole power p.
-    fn cost_at(&self, p: i64) -> i64
-        requires ok { Ranges self.now }
-        requires power { Within 100000000 p }
-        ensures { result ≡ piecewise_whole self.now p }
+    // Its cost, along the line of its first slope and then from point to point.
+    fn pieces(&self) -> Pieces<'_>
+        requires { Ranges self.now }
+        ensures cost { result.line.cost ≡ pos 1000000 *ℤ self.now.c }
+        ensures from { result.line.from.watts ≡ first self.now.points }
+        ensures slope { result.line.slope ≡ first self.now.slopes }
+        ensures points { result.points.now ≡ inner self.now self.now.points }
+        ensures slopes { result.slopes.now ≡ inner self.now self.now.slopes }
     {
-        let points = &self.points[1..self.n - 1];
-        let slopes = &self.slopes[1..self.n - 1];
-        cost_along(
-            1_000_000 * self.c,
-            self.points[0],
-            self.slopes[0],
-            points,
-            slopes,
-            p,
-        )
-    }
-
-    // The least of cost - q × power over the machine's limits.
-    fn least_margin(&self, q: i64) -> i64
-        requires ok { Ranges self.now }
-        requires price { Within 1000000 q }
-        ensures { result ≡ least_piecewise self.now q }
-    {
-        let points = &self.points[1..self.n - 1];
-        let slopes = &self.slopes[1..self.n - 1];
-        least_along(
-            1_000_000 * self.c,
-            self.points[0],
-            self.slopes[0],
-            points,
-            slopes,
-            self.lo.0,
-            self.hi.0,
-            q,
-        )
+        let line = Line {
+            cost: 1_000_000 * self.c,
+            from: Power {
+                watts: self.points[0],
+            },
+            slope: self.slopes[0],
+        };
+        Pieces {
+            line,
+            points: &self.points[1..self.n - 1],
+            slopes: &self.slopes[1..self.n - 1],
+        }
     }
 }
 
@@ -94,18 +78,16 @@ impl Machine for Stepped {
     }
 
     fn allows(&self, p: Watts) -> bool {
-        if self.is_in_range() {
-            is_between(self.lo.0, self.hi.0, p.0)
-        } else {
-            p.0 == 0
-        }
+        limits::allow(self.is_in_range(), self.lo, self.hi, p)
     }
 
+    // In each kind, not once for all: a cost passed as a closure would have to state that it is called in range.
     fn cost(&self, p: Watts) -> Option<Grains> {
         if !self.allows(p) {
             None
         } else if self.is_in_range() {
-            Some(Grains(self.cost_at(p.0)))
+            let p = Power { watts: p.0 };
+            Some(Grains(self.pieces().at(p)))
         } else {
             Some(Grains(0))
         }
@@ -113,7 +95,9 @@ impl Machine for Stepped {
 
     fn margin(&self, q: Price) -> Grains {
         if self.is_in_range() {
-            Grains(self.least_margin(q.get()))
+            let lo = Power { watts: self.lo.0 };
+            let hi = Power { watts: self.hi.0 };
+            Grains(self.pieces().least(q, lo, hi))
         } else {
             Grains(0)
         }

@@ -1,6 +1,10 @@
-use Rattle.std.proofs.Common.{◌≡◌, sym, subst, arith, w64, SFits}
+use Rattle.std.proofs.Common.{◌≡◌, ℕ, Option, None, Result, Err, sym, ap, ◌∙◌, subst, arith, w64, SFits}
 use borrow.Author.Differences.{ints}
 use Rattle.std.proofs.lemmas.Int.{to_z-of_z}
+use Rattle.std.specs.Option.{ok_or}
+use Rattle.std.specs.Result.{result_ok}
+use Rattle.std.proofs.lemmas.Option.{MatchOption-at_none, MatchOption-at_some}
+use Rattle.std.proofs.lemmas.Result.{err_from_is_err_and}
 use Rattle.measure.specs.Fraction.{whole, ◌≤ᶠ◌}
 use Rattle.measure.specs.Rows.{Row}
 use Rattle.machine.specs.Group.{counted_cost, true_cost_of}
@@ -8,18 +12,25 @@ use Rattle.measure.proofs.Sums.{stands_read}
 use Rattle.machine.proofs.Totals.{total_more, all_more, total_none, all_none, true_below_counted}
 use Rattle.machine.proofs.group.total_cost.Goals as goal
 
-pub returns-in_default : goal.returns-in_default
-returns-in_default g c =
+-- where there is no value, `ok_or` answers the error that it was given
+err_is : {X : Type 0} (o : Option X) (r : Result X ℕ) (e i : ℕ) → o ≡ None → r ≡ ok_or o i → r ≡ Err e → e ≡ i
+err_is o r e i n v w = cc
+
+pub returns-in_err-cost : goal.returns-in_err-cost
+returns-in_err-cost g c =
+    let p = err_from_is_err_and c.from_residual.result c.from_residual.ensures.1 in
+    let o = c.ok_or.ensures.ok_part ∙ ap result_ok c.in_err-cost.was in
+    let i : c.in_err-cost.field-0.0 ≡ c.loop-i.i = err_is c.cost.result c.ok_or.result _ _ o c.ok_or.ensures.value c.in_err-cost.was in
     let f = subst (SFits w64) c.at.ensures (record { sfits = c.at.type_inv }) in
-    record {
+    rw (p.1, p.2, i) (record {
       item = c.index-machines-i.result;
       stands = stands_read c.args.machines.now c.loop-i.i c.index-machines-i.result c.loop-i-test.true c.index-machines-i.is;
-      holds = simp (to_z-of_z, f, c.at.ensures) at c.in_default.ensures;
-    }
+      holds = simp (to_z-of_z, f, c.at.ensures) at (MatchOption-at_none _ _ o c.cost.ensures);
+    })
 
 pub overflow_add-total : goal.overflow_add-total
 overflow_add-total g c =
-    let k = c.in-Some.ensures in
+    let k = (MatchOption-at_some _ _ _ (c.ok_or.ensures.ok_part ∙ ap result_ok c.in_ok-cost.was) c.cost.ensures) in
     let r = (g.met.M.Machine.lawful c.index-machines-i.result).answer_range _ k.0 in
     omega (arith, ints, r, k.1, c.loop-i.invariant.1, c.loop-i.total-is, c.loop-i-test.true, c.requires.few)
 
@@ -29,7 +40,7 @@ loop-i-preserved g c =
     let p = g.C.Column.value c.args.powers.now in
     let m = c.index-machines-i.result in
     let f = subst (SFits w64) c.at.ensures (record { sfits = c.at.type_inv }) in
-    let k = simp (to_z-of_z, f, c.at.ensures) at c.in-Some.ensures in
+    let k = simp (to_z-of_z, f, c.at.ensures) at (MatchOption-at_some _ _ _ (c.ok_or.ensures.ok_part ∙ ap result_ok c.in_ok-cost.was) c.cost.ensures) in
     let r = (g.met.M.Machine.lawful m).answer_range (p c.loop-i.i) k.0 in
     let s = total_more c.args.machines.now c.loop-i.i m c.loop-i-test.true c.index-machines-i.is (λ (r : Row _). M.cost_answer r.item (p r.row)) in (
       omega (arith, ints, r, s, k.1, c.loop-i.invariant.0, c.loop-i.invariant.1, c.loop-i.total-is, c.loop-i-test.true, c.requires.few),

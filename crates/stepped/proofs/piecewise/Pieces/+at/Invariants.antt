@@ -1,0 +1,5 @@
+use Rattle.std.proofs.Common.{length}
+use Rattle.stepped.proofs.piecewise.Pieces.+at.Given as goal
+
+abbrev pub decreases-at : goal.decreases-at
+decreases-at l = length l.self.points.now

@@ -10,7 +10,6 @@ pub fill_places-requires : goal.fill_places-requires
 fill_places-requires g c =
     let a = c.in_ok-counts.ensures.0 in
     record {
-      few = a.sizes.buses.1;
       known = first_known g.M.Machine.meaning g.N.Machine.meaning c.args.rows.now a.known;
       room = a.sizes.first_room;
     }
@@ -19,7 +18,6 @@ pub fill_places-requires-2 : goal.fill_places-requires-2
 fill_places-requires-2 g c =
     let a = c.in_ok-counts.ensures.0 in
     record {
-      few = a.sizes.buses.1;
       known = second_known g.M.Machine.meaning g.N.Machine.meaning c.args.rows.now a.known;
       room = a.sizes.second_room;
     }
@@ -28,7 +26,6 @@ pub fill_branches-requires : goal.fill_branches-requires
 fill_branches-requires g c =
     let a = c.in_ok-counts.ensures.0 in
     record {
-      few = a.sizes.buses.1;
       ranges = a.ranges.branches;
       uncrossed = a.uncrossed;
       known = branches_known g.M.Machine.meaning g.N.Machine.meaning c.args.rows.now a.known;

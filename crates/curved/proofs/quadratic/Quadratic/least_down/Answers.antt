@@ -3,6 +3,18 @@ use Rattle.std.proofs.lemmas.Int.{to_z-of_z}
 use Rattle.curved.proofs.Sizes.{own, least}
 use Rattle.curved.proofs.quadratic.Quadratic.least_down.Goals as goal
 
+pub overflow_mul-square-2 : goal.overflow_mul-square-2
+overflow_mul-square-2 c =
+    let o = own c.args.self in
+    let z = least c.args.self in
+    simp (to_z-of_z, o.slope, z.once) z.twice
+
+pub overflow_sub-square : goal.overflow_sub-square
+overflow_sub-square c =
+    let o = own c.args.self in
+    let z = least c.args.self in
+    simp (to_z-of_z, o.slope, z.once, z.twice, +ℤ_idl) z.minus
+
 pub overflow_add-result : goal.overflow_add-result
 overflow_add-result c =
     let o = own c.args.self in

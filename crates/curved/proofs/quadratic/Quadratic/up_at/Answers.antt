@@ -5,6 +5,9 @@ use Rattle.measure.specs.Range.{ceil_div}
 use Rattle.curved.proofs.Sizes.{at}
 use Rattle.curved.proofs.quadratic.Quadratic.up_at.Goals as goal
 
+pub overflow_add-result : goal.overflow_add-result
+overflow_add-result c = omega (arith, ints, c.line_at.ensures.size, c.rounded_up.ensures.size)
+
 pub returns : goal.returns
 returns c =
     let z = at c.args.self c.args.p in

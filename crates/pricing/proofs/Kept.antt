@@ -1,25 +1,32 @@
 -- A price list whose numbers outside their ranges count as 0: the sizes of its quantities.
-use Rattle.std.proofs.Common.{◌≡◌, ℕ, ◌^◌, ◌<◌, cond, eqb, ltb, length, ℤ, pos, negsuc, ◌+ℤ◌, ◌-ℤ◌, ◌*ℤ◌, sym, refl, ◌∙◌, subst, arith, lit<, w64, SFits, to_z, of_z}
+use Rattle.std.proofs.Common.{◌≡◌, ℕ, ◌^◌, ◌<◌, ◌≤◌, cond, eqb, ltb, List, length, take, ℤ, pos, negsuc, ◌+ℤ◌, ◌-ℤ◌, ◌*ℤ◌, sym, refl, ap, ◌∙◌, subst, arith, lit<, w64, SFits, to_z, of_z}
+use native.Mathlib.Decide.{dec_lt}
 use lib.Signed.{mag, non_neg, le_z}
 use Rattle.std.proofs.lemmas.Int.{to_z-of_z}
 use Rattle.std.proofs.lemmas.Bool.{cond_both, le-leb}
+use Rattle.std.proofs.lemmas.List.{length-take}
 use Rattle.measure.specs.Range.{Within, ∣◌∣}
-use Rattle.measure.specs.Rows.{Row, rows, total, only}
+use Rattle.measure.specs.Rows.{Row, rows, total, only, row_value}
 use Rattle.measure.proofs.Laws.{lin}
 use Rattle.measure.proofs.Order.{product_within, kept-within}
 use Rattle.measure.proofs.Sizes.{fits}
-use Rattle.measure.proofs.Sums.{total_sub}
+use Rattle.measure.proofs.Sums.{total_sub, row_past, row_is}
 use Rattle.network.specs.declared.bus.Bus.{Bus}
 use Rattle.network.specs.declared.branch.Branch.{Branch}
 use Rattle.network.specs.Ranges.{Weighed, Stretched, Charged, Worth}
 use Rattle.network.specs.Model.{Case}
 use Rattle.network.specs.Floor.{Prices, price, weight, pull, residue, angle_charge}
+use Rattle.network.proofs.Flows.{price_beyond}
 use Rattle.pricing.specs.Kept.{kept_price, kept_angle_price, kept_weight, kept_residue, kept_prices, share, kept_charge, bus_worth, price_size}
 use Rattle.measure.proofs.Order.{only-within}
 
 -- a number passed on in 64 bits
 pub passed : (z : ℤ) → mag z < 2 ^ 63 → to_z w64 (of_z w64 z) ≡ z
 passed z h = to_z-of_z w64 z (record { sfits = h })
+
+-- what a call returned, read in 64 bits, is what its clause says
+pub gave : {z y : ℤ} → mag z < 2 ^ 63 → z ≡ y → to_z w64 (of_z w64 z) ≡ y
+gave {z} h e = passed z h ∙ e
 
 -- a number that equals one that fits
 pub fits_as : {a b : ℤ} → a ≡ b → SFits w64 b → SFits w64 a
@@ -201,3 +208,15 @@ module _ {M N : Type 0} (c : Case M N) (q : Prices) where
 
   pub price_size_within : (b : Row Bus) → Within 1000000 (price_size c (kept_prices q) b)
   price_size_within b = abs_within 1000000 (price c (kept_prices q) b.row) (price_within c q b.row)
+
+  -- the size of a price is that of its bus's row, of the table that the case has its first buses from
+  pub price_size_row : (bs : List Bus) (n i : ℕ) → c.buses ≡ take n bs → ∣ price c q i ∣ ≡ row_value (price_size c q) bs i
+  price_size_row bs n i e =
+      elim (dec_lt i (length bs)) [
+        | yes m ↦ row_is (pos 0) (price_size c q) bs i _ m (λ x k. refl)
+        | no m ↦
+            let t = length-take n bs in
+            let k = ap length e in
+            let l : length c.buses ≤ i = omega arith in
+            ap ∣◌∣ (price_beyond c q i l) ∙ sym (row_past (pos 0) (price_size c q) 0 bs i (omega arith))
+      ]

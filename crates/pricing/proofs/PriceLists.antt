@@ -129,16 +129,9 @@ module _ {M N : Type 0} (c : Case M N) (q : Prices) where
     within_unless 100000000 (q.angle i) (λ out. none i (l, λ h. out h.1)),
   )
 
-  pub price_checked : (n m : ℕ) → n ≡ length c.buses → m ≡ length c.branches → Lowest (λ i. (i < n) × (bus_price_beyond q i ≡ true)) None → (r : Option ℕ) → Lowest (λ i. (i < m) × (branch_price_beyond q i ≡ true)) r → MatchOption r (BusPricesKept c q × BranchPricesKept c q) (OutOfRangeAt c q)
-  price_checked n m e f none r h =
-      go r (branch_lowest r (subst (λ k. Lowest (λ i. (i < k) × (branch_price_beyond q i ≡ true)) r) f h))
-    where
-      buses : BusPricesKept c q
-      buses = bus_kept (bus_lowest None (subst (λ k. Lowest (λ i. (i < k) × (bus_price_beyond q i ≡ true)) None) e none))
-
-      go : (r : Option ℕ) → Lowest (BranchPriceBeyond c q) r → MatchOption r (BusPricesKept c q × BranchPricesKept c q) (OutOfRangeAt c q)
-      go None k = (buses, branch_kept k)
-      go (Some i) k = inr (buses, k)
+  pub price_checked : Lowest (BusPriceBeyond c q) None → (r : Option ℕ) → Lowest (BranchPriceBeyond c q) r → MatchOption r (BusPricesKept c q × BranchPricesKept c q) (OutOfRangeAt c q)
+  price_checked none None h = (bus_kept none, branch_kept h)
+  price_checked none (Some i) h = inr (bus_kept none, h)
 
   pub residue_lowest : (r : Option ℕ) → Lowest (λ i. (i < length c.buses) × (residue_beyond c q i ≡ true)) r → Lowest (ResidueBeyond c q) r
   residue_lowest r h =

@@ -8,10 +8,9 @@ ghost use Rattle.network.specs.View.{case_of};
 ghost use Rattle.pricing.specs.Kept.{prices_of, kept_prices, kept_charge, bus_worth, price_size};
 
 use crate::residue::PricedCase;
-use measure::column::{Column, sum};
+use measure::column::Column;
 use measure::range::{keep, only_if};
-use network::branch::Branch;
-use network::bus::Bus;
+use measure::rows::sum;
 use network::case::ANGLE_LIMIT;
 
 // Every weight of a branch in service lies within ± this.
@@ -57,10 +56,13 @@ fn worth(price: i64, demand: i64, residue: i64) -> i64
 }
 
 impl<'a, 'q, M, N, C: Column> PricedCase<'a, 'q, M, N, C> {
-    // What the branch in that row is charged.
-    fn charge(&self, row: usize, branch: &Branch) -> i64
-        ensures { result ≡ kept_charge (case_of self.now.case) (kept_prices (prices_of C.value self.now.prices.now)) (record { item = branch.now; row = row }) }
+    // What the branch in that row is charged; 0 past the last row.
+    fn charge(&self, row: usize) -> i64
+        ensures { result ≡ row_value (kept_charge (case_of self.now.case) (kept_prices (prices_of C.value self.now.prices.now))) self.now.case.branches.now row }
     {
+        let Some(branch) = self.case.branches.get(row) else {
+            return 0;
+        };
         let weight = keep(-WEIGHT_LIMIT, WEIGHT_LIMIT, self.weight(row, branch));
         let angle = stretched(self.angle_price_at(row), branch.angmin.0, branch.angmax.0);
         only_if(
@@ -75,12 +77,22 @@ impl<'a, 'q, M, N, C: Column> PricedCase<'a, 'q, M, N, C> {
         )
     }
 
-    // What the bus in that row adds to the floor.
-    fn bus_worth(&self, row: usize, bus: &Bus) -> i64
-        ensures { result ≡ bus_worth (case_of self.now.case) (kept_prices (prices_of C.value self.now.prices.now)) (record { item = bus.now; row = row }) }
+    // What the bus in that row adds to the floor; 0 past the last row.
+    fn bus_worth(&self, row: usize) -> i64
+        ensures { result ≡ row_value (bus_worth (case_of self.now.case) (kept_prices (prices_of C.value self.now.prices.now))) self.now.case.buses.now row }
     {
+        let Some(bus) = self.case.buses.get(row) else {
+            return 0;
+        };
         let residue = keep(-RESIDUE_LIMIT, RESIDUE_LIMIT, self.residue(row));
         worth(self.price_at(row), bus.demand.0, only_if(0 < row, residue))
+    }
+
+    // The size of the price at the bus in that row; 0 past the last row.
+    fn price_size(&self, row: usize) -> i64
+        ensures { result ≡ row_value (price_size (case_of self.now.case) (kept_prices (prices_of C.value self.now.prices.now))) self.now.case.buses.now row }
+    {
+        size(self.price_at(row))
     }
 
     // What all branches are charged.
@@ -88,7 +100,7 @@ impl<'a, 'q, M, N, C: Column> PricedCase<'a, 'q, M, N, C> {
         ensures small { Within 4268700000000000000 result }
         ensures exact { result ≡ total (kept_charge (case_of self.now.case) (kept_prices (prices_of C.value self.now.prices.now))) (rows (take self.now.case.nl self.now.case.branches.now)) }
     {
-        sum(&Charges { priced: *self }, self.case.nl)
+        sum(self.case.nl, |row| self.charge(row))
     }
 
     // What all buses add to the floor.
@@ -96,7 +108,7 @@ impl<'a, 'q, M, N, C: Column> PricedCase<'a, 'q, M, N, C> {
         ensures small { Within 841500000000000000 result }
         ensures exact { result ≡ total (bus_worth (case_of self.now.case) (kept_prices (prices_of C.value self.now.prices.now))) (rows (take self.now.case.nb self.now.case.buses.now)) }
     {
-        sum(&BusWorths { priced: *self }, self.case.nb)
+        sum(self.case.nb, |row| self.bus_worth(row))
     }
 
     // The sum of the sizes of the bus prices.
@@ -104,60 +116,6 @@ impl<'a, 'q, M, N, C: Column> PricedCase<'a, 'q, M, N, C> {
         ensures small { Within 255000000 result }
         ensures exact { result ≡ total (price_size (case_of self.now.case) (kept_prices (prices_of C.value self.now.prices.now))) (rows (take self.now.case.nb self.now.case.buses.now)) }
     {
-        sum(&PriceSizes { priced: *self }, self.case.nb)
-    }
-}
-
-// What each branch is charged.
-#[derive_where(Clone, Copy)]
-struct Charges<'a, 'q, M, N, C> {
-    priced: PricedCase<'a, 'q, M, N, C>,
-}
-
-impl<'a, 'q, M, N, C: Column> Column for Charges<'a, 'q, M, N, C> {
-    ghost value = { λ s. row_value (kept_charge (case_of s.priced.case) (kept_prices (prices_of C.value s.priced.prices.now))) s.priced.case.branches.now };
-
-    fn at(&self, row: usize) -> i64 {
-        if row < self.priced.case.branches.len() {
-            self.priced.charge(row, &self.priced.case.branches[row])
-        } else {
-            0
-        }
-    }
-}
-
-// What each bus adds to the floor.
-#[derive_where(Clone, Copy)]
-struct BusWorths<'a, 'q, M, N, C> {
-    priced: PricedCase<'a, 'q, M, N, C>,
-}
-
-impl<'a, 'q, M, N, C: Column> Column for BusWorths<'a, 'q, M, N, C> {
-    ghost value = { λ s. row_value (bus_worth (case_of s.priced.case) (kept_prices (prices_of C.value s.priced.prices.now))) s.priced.case.buses.now };
-
-    fn at(&self, row: usize) -> i64 {
-        if row < self.priced.case.buses.len() {
-            self.priced.bus_worth(row, &self.priced.case.buses[row])
-        } else {
-            0
-        }
-    }
-}
-
-// The size of each bus's price.
-#[derive_where(Clone, Copy)]
-struct PriceSizes<'a, 'q, M, N, C> {
-    priced: PricedCase<'a, 'q, M, N, C>,
-}
-
-impl<'a, 'q, M, N, C: Column> Column for PriceSizes<'a, 'q, M, N, C> {
-    ghost value = { λ s. row_value (price_size (case_of s.priced.case) (kept_prices (prices_of C.value s.priced.prices.now))) s.priced.case.buses.now };
-
-    fn at(&self, row: usize) -> i64 {
-        if row < self.priced.case.buses.len() {
-            size(self.priced.price_at(row))
-        } else {
-            0
-        }
+        sum(self.case.nb, |row| self.price_size(row))
     }
 }

@@ -17,7 +17,7 @@ use network::case::{Case, Machines, first_rows};
 use network::prices::Prices;
 use network::refusal::Refusal;
 
-// The price at each machine's bus.
+// The price at each machine's bus: a column, as a sum of margins over machines of any kind takes its prices.
 #[derive_where(Clone, Copy)]
 struct MachinePrices<'a, 'q, M, N, C, K> {
     priced: PricedCase<'a, 'q, M, N, C>,
@@ -28,7 +28,7 @@ impl<'a, 'q, M, N, C: Column, K> Column for MachinePrices<'a, 'q, M, N, C, K> {
     ghost value = { λ s i. price (case_of s.priced.case) (kept_prices (prices_of C.value s.priced.prices.now)) (slice_index s.machines.places.now i) };
 
     fn at(&self, row: usize) -> i64 {
-        self.priced.price_at(self.machines.place(row) as usize)
+        self.priced.price_at(usize::from(self.machines.place(row)))
     }
 }
 
@@ -37,7 +37,7 @@ fn summed(first: i64, second: i64, buses: i64, tolerance: u32, sizes: i64, charg
     requires { Summed first second buses tolerance sizes charges }
     ensures { result ≡ first +ℤ second +ℤ buses -ℤ pos tolerance *ℤ sizes -ℤ charges }
 {
-    first + second + buses - tolerance as i64 * sizes - charges
+    first + second + buses - i64::from(tolerance) * sizes - charges
 }
 
 impl<'a, 'q, M, N, C: Column> PricedCase<'a, 'q, M, N, C> {
@@ -79,7 +79,7 @@ pub fn floor<M: Machine, N: Machine, C: Column>(
 {
     let priced = PricedCase {
         case: *case,
-        prices: prices,
+        prices,
     };
     priced.check()?;
     Ok(Grains(priced.floor()))

@@ -5,134 +5,101 @@ ghost use Rattle.measure.specs.Rows.{row_test, Lowest};
 ghost use Rattle.network.specs.View.{case_of};
 ghost use Rattle.network.specs.Floor.{residue};
 ghost use Rattle.pricing.specs.Kept.{prices_of, kept_prices, bus_price_beyond, branch_price_beyond, unrated, overweight, residue_beyond};
-ghost use Rattle.network.specs.Floored.{BusPricesKept, BranchPricesKept, OutOfRangeAt, UnratedRow, WeightBeyond, ResidueBeyond, Checked};
+ghost use Rattle.network.specs.Floored.{BusPricesKept, BranchPricesKept, BusPriceBeyond, BranchPriceBeyond, OutOfRangeAt, UnratedRow, WeightBeyond, ResidueBeyond, Checked};
 
 use crate::charge::{RESIDUE_LIMIT, WEIGHT_LIMIT};
 use crate::residue::{ANGLE_PRICE_LIMIT, PricedCase};
 use measure::column::Column;
-use measure::limit::{Limit, first_broken};
 use measure::price::Price;
 use measure::range::is_between;
-use network::branch::Branch;
+use measure::rows::first_broken;
 use network::case::rows_used;
-use network::prices::Prices;
 use network::refusal::Refusal;
 
-// The range of the bus prices.
-#[derive_where(Clone, Copy)]
-struct BusPrices<'q, C> {
-    prices: &'q Prices<C>,
-}
-
-impl<'q, C: Column> Limit for BusPrices<'q, C> {
-    ghost broken = { λ s. bus_price_beyond (prices_of C.value s.prices.now) };
-
-    fn is_broken(&self, row: usize) -> bool {
+impl<'a, 'q, M, N, C: Column> PricedCase<'a, 'q, M, N, C> {
+    // Whether the price of the bus in that row is outside its range.
+    fn is_bus_price_beyond(&self, row: usize) -> bool
+        ensures { result ≡ bus_price_beyond (prices_of C.value self.now.prices.now) row }
+    {
         !is_between(-Price::LIMIT, Price::LIMIT, self.prices.bus.at(row))
     }
-}
 
-// The ranges of the congestion prices and of the angle prices.
-#[derive_where(Clone, Copy)]
-struct BranchPrices<'q, C> {
-    prices: &'q Prices<C>,
-}
-
-impl<'q, C: Column> Limit for BranchPrices<'q, C> {
-    ghost broken = { λ s. branch_price_beyond (prices_of C.value s.prices.now) };
-
-    fn is_broken(&self, row: usize) -> bool {
+    // Whether the congestion price or the angle price of the branch in that row is outside its range.
+    fn is_branch_price_beyond(&self, row: usize) -> bool
+        ensures { result ≡ branch_price_beyond (prices_of C.value self.now.prices.now) row }
+    {
         let congestion = self.prices.congestion.at(row);
         let angle = self.prices.angle.at(row);
         !is_between(-Price::LIMIT, Price::LIMIT, congestion)
             | !is_between(-ANGLE_PRICE_LIMIT, ANGLE_PRICE_LIMIT, angle)
     }
-}
 
-// A branch in service without a rating has no congestion price.
-#[derive_where(Clone, Copy)]
-struct Rated<'a, 'q, C> {
-    branches: &'a [Branch],
-    prices: &'q Prices<C>,
-}
-
-impl<'a, 'q, C: Column> Limit for Rated<'a, 'q, C> {
-    ghost broken = { λ s. row_test (unrated (prices_of C.value s.prices.now)) s.branches.now };
-
-    fn is_broken(&self, row: usize) -> bool {
-        if row < self.branches.len() {
-            let branch = self.branches[row];
-            branch.service & (branch.rating.0 == 0) & (self.prices.congestion.at(row) != 0)
-        } else {
-            false
-        }
+    // Whether the branch in that row is in service without a rating and has a congestion price.
+    fn is_unrated(&self, row: usize) -> bool
+        ensures { result ≡ row_test (unrated (prices_of C.value self.now.prices.now)) self.now.case.branches.now row }
+    {
+        let Some(branch) = self.case.branches.get(row) else {
+            return false;
+        };
+        branch.service & (branch.rating.0 == 0) & (self.prices.congestion.at(row) != 0)
     }
-}
 
-// The range of the weights of branches in service.
-#[derive_where(Clone, Copy)]
-struct Weights<'a, 'q, M, N, C> {
-    priced: PricedCase<'a, 'q, M, N, C>,
-}
-
-impl<'a, 'q, M, N, C: Column> Limit for Weights<'a, 'q, M, N, C> {
-    ghost broken = { λ s. row_test (overweight (case_of s.priced.case) (kept_prices (prices_of C.value s.priced.prices.now))) s.priced.case.branches.now };
-
-    fn is_broken(&self, row: usize) -> bool {
-        if row < self.priced.case.branches.len() {
-            let branch = &self.priced.case.branches[row];
-            branch.service
-                & !is_between(-WEIGHT_LIMIT, WEIGHT_LIMIT, self.priced.weight(row, branch))
-        } else {
-            false
-        }
+    // Whether the branch in that row is in service and its weight too large.
+    fn is_overweight(&self, row: usize) -> bool
+        ensures { result ≡ row_test (overweight (case_of self.now.case) (kept_prices (prices_of C.value self.now.prices.now))) self.now.case.branches.now row }
+    {
+        let Some(branch) = self.case.branches.get(row) else {
+            return false;
+        };
+        branch.service & !is_between(-WEIGHT_LIMIT, WEIGHT_LIMIT, self.weight(row, branch))
     }
-}
 
-// The range of the residues.
-#[derive_where(Clone, Copy)]
-struct Residues<'a, 'q, M, N, C> {
-    priced: PricedCase<'a, 'q, M, N, C>,
-}
-
-impl<'a, 'q, M, N, C: Column> Limit for Residues<'a, 'q, M, N, C> {
-    ghost broken = { λ s. residue_beyond (case_of s.priced.case) (kept_prices (prices_of C.value s.priced.prices.now)) };
-
-    fn is_broken(&self, row: usize) -> bool {
-        !is_between(-RESIDUE_LIMIT, RESIDUE_LIMIT, self.priced.residue(row))
+    // Whether the residue of the bus in that row is too large.
+    fn is_residue_beyond(&self, row: usize) -> bool
+        ensures { result ≡ residue_beyond (case_of self.now.case) (kept_prices (prices_of C.value self.now.prices.now)) row }
+    {
+        !is_between(-RESIDUE_LIMIT, RESIDUE_LIMIT, self.residue(row))
     }
-}
 
-impl<'a, 'q, M, N, C: Column> PricedCase<'a, 'q, M, N, C> {
+    // The lowest bus row with a price outside its range, or none.
+    fn bus_price_beyond(&self) -> Option<usize>
+        ensures { Lowest (BusPriceBeyond (case_of self.now.case) (prices_of C.value self.now.prices.now)) result }
+    {
+        let buses = rows_used(self.case.buses, self.case.nb);
+        first_broken(buses, |row| self.is_bus_price_beyond(row))
+    }
+
+    // The lowest branch row with a price outside its range, or none.
+    fn branch_price_beyond(&self) -> Option<usize>
+        ensures { Lowest (BranchPriceBeyond (case_of self.now.case) (prices_of C.value self.now.prices.now)) result }
+    {
+        let branches = rows_used(self.case.branches, self.case.nl);
+        first_broken(branches, |row| self.is_branch_price_beyond(row))
+    }
+
     // The lowest row with a price outside its range, of the buses or else of the branches; or none.
     fn price_beyond(&self) -> Option<usize>
         ensures { MatchOption result (BusPricesKept (case_of self.now.case) (prices_of C.value self.now.prices.now) × BranchPricesKept (case_of self.now.case) (prices_of C.value self.now.prices.now)) (OutOfRangeAt (case_of self.now.case) (prices_of C.value self.now.prices.now)) }
     {
-        let buses = rows_used(self.case.buses, self.case.nb);
-        let branches = rows_used(self.case.branches, self.case.nl);
-        let prices = self.prices;
-        if let Some(row) = first_broken(&BusPrices { prices }, buses) {
+        // Not `or_else`: a proof learns nothing of what its closure answers here.
+        if let Some(row) = self.bus_price_beyond() {
             return Some(row);
         }
-        first_broken(&BranchPrices { prices }, branches)
+        self.branch_price_beyond()
     }
 
     // The lowest branch row in service without a rating that has a congestion price, or none.
     fn unrated(&self) -> Option<usize>
         ensures { Lowest (UnratedRow (case_of self.now.case) (prices_of C.value self.now.prices.now)) result }
     {
-        let rated = Rated {
-            branches: self.case.branches,
-            prices: self.prices,
-        };
-        first_broken(&rated, self.case.nl)
+        first_broken(self.case.nl, |row| self.is_unrated(row))
     }
 
     // The lowest branch row in service whose weight is too large, or none.
     fn overweight(&self) -> Option<usize>
         ensures { Lowest (WeightBeyond (case_of self.now.case) (kept_prices (prices_of C.value self.now.prices.now))) result }
     {
-        first_broken(&Weights { priced: *self }, self.case.nl)
+        first_broken(self.case.nl, |row| self.is_overweight(row))
     }
 
     // The lowest bus row whose residue is too large, or none.
@@ -140,7 +107,7 @@ impl<'a, 'q, M, N, C: Column> PricedCase<'a, 'q, M, N, C> {
         ensures { Lowest (ResidueBeyond (case_of self.now.case) (kept_prices (prices_of C.value self.now.prices.now))) result }
     {
         let buses = rows_used(self.case.buses, self.case.nb);
-        first_broken(&Residues { priced: *self }, buses)
+        first_broken(buses, |row| self.is_residue_beyond(row))
     }
 
     // Whether the list is lawful; if not, the first refusal.

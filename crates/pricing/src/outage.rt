@@ -4,6 +4,7 @@ ghost use Rattle.measure.specs.Rows.{HoldsAt, Lowest};
 ghost use Rattle.names.specs.Names.{HasName};
 ghost use Rattle.pricing.specs.Outage.{stations_with, with_mark, without, FlooredWithout};
 ghost use Rattle.pricing.specs.Kept.{prices_of};
+ghost use Rattle.network.specs.View.{case_of};
 ghost use Rattle.network.specs.Floored.{Floored};
 
 use crate::floor::floor;
@@ -27,6 +28,23 @@ pub struct Stations<'a, M, N> {
     pub first: Machines<'a, M>,
     pub second: Machines<'a, N>,
     pub nl: u8,
+}
+
+impl<'a, M, N> Stations<'a, M, N> {
+    // The case that these stations make with branch rows.
+    pub fn with(self, branches: &'a [Branch]) -> Case<'a, M, N>
+        ensures { case_of result ≡ stations_with self.entry branches.now }
+    {
+        Case {
+            tolerance: self.tolerance,
+            buses: self.buses,
+            nb: self.nb,
+            first: self.first,
+            second: self.second,
+            branches,
+            nl: self.nl,
+        }
+    }
 }
 
 // Puts the branch in that row back to its service mark when it ends.
@@ -59,16 +77,7 @@ impl Outage<'_> {
     ) -> Result<Grains, Refusal>
         ensures { Floored M.meaning N.meaning (stations_with stations.entry self.now.rows.now) (prices_of C.value prices.now) result }
     {
-        let case = Case {
-            tolerance: stations.tolerance,
-            buses: stations.buses,
-            nb: stations.nb,
-            first: stations.first,
-            second: stations.second,
-            branches: self.rows,
-            nl: stations.nl,
-        };
-        floor(&case, prices)
+        floor(&stations.with(self.rows), prices)
     }
 }
 

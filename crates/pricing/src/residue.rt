@@ -6,9 +6,10 @@ ghost use Rattle.network.specs.Floor.{price, weight, pull, residue};
 ghost use Rattle.network.specs.View.{case_of};
 ghost use Rattle.pricing.specs.Kept.{prices_of, kept_price, kept_angle_price, kept_prices, share};
 
-use measure::column::{Column, sum};
+use measure::column::Column;
 use measure::price::Price;
 use measure::range::{keep, only_if};
+use measure::rows::sum;
 use network::branch::Branch;
 use network::case::{Case, rows_used};
 use network::prices::Prices;
@@ -37,10 +38,8 @@ impl<'a, 'q, M, N, C: Column> PricedCase<'a, 'q, M, N, C> {
         ensures { result ≡ price (case_of self.now.case) (kept_prices (prices_of C.value self.now.prices.now)) row }
     {
         let price = keep(-Price::LIMIT, Price::LIMIT, self.prices.bus.at(row));
-        only_if(
-            row < rows_used(self.case.buses, self.case.nb) as usize,
-            price,
-        )
+        let buses = rows_used(self.case.buses, self.case.nb);
+        only_if(row < usize::from(buses), price)
     }
 
     // The congestion price of the branch in that row.
@@ -67,8 +66,8 @@ impl<'a, 'q, M, N, C: Column> PricedCase<'a, 'q, M, N, C> {
     {
         weighed(
             branch.susceptance,
-            self.price_at(branch.ends.from as usize),
-            self.price_at(branch.ends.to as usize),
+            self.price_at(usize::from(branch.ends.from)),
+            self.price_at(usize::from(branch.ends.to)),
             self.congestion_at(row),
         )
     }
@@ -83,41 +82,23 @@ impl<'a, 'q, M, N, C: Column> PricedCase<'a, 'q, M, N, C> {
         )
     }
 
+    // What the branch in that row adds to the residue of the bus; 0 past the last row.
+    fn share(&self, bus: usize, row: usize) -> i64
+        ensures { result ≡ row_value (share (case_of self.now.case) (kept_prices (prices_of C.value self.now.prices.now)) bus) self.now.case.branches.now row }
+    {
+        let Some(branch) = self.case.branches.get(row) else {
+            return 0;
+        };
+        let pull = self.pull(row, branch);
+        let leaving = only_if(usize::from(branch.ends.from) == bus, pull);
+        let arriving = only_if(usize::from(branch.ends.to) == bus, pull);
+        leaving - arriving
+    }
+
     // The residue of the bus in that row.
     pub(crate) fn residue(&self, bus: usize) -> i64
         ensures { result ≡ residue (case_of self.now.case) (kept_prices (prices_of C.value self.now.prices.now)) bus }
     {
-        sum(&Shares { priced: *self, bus }, self.case.nl)
-    }
-}
-
-// What each branch adds to the residue of one bus.
-#[derive_where(Clone, Copy)]
-struct Shares<'a, 'q, M, N, C> {
-    priced: PricedCase<'a, 'q, M, N, C>,
-    bus: usize,
-}
-
-impl<'a, 'q, M, N, C: Column> Shares<'a, 'q, M, N, C> {
-    // What the branch in that row adds.
-    fn of(&self, row: usize, branch: &Branch) -> i64
-        ensures { result ≡ share (case_of self.now.priced.case) (kept_prices (prices_of C.value self.now.priced.prices.now)) self.now.bus (record { item = branch.now; row = row }) }
-    {
-        let pull = self.priced.pull(row, branch);
-        let leaving = only_if(branch.ends.from as usize == self.bus, pull);
-        let arriving = only_if(branch.ends.to as usize == self.bus, pull);
-        leaving - arriving
-    }
-}
-
-impl<'a, 'q, M, N, C: Column> Column for Shares<'a, 'q, M, N, C> {
-    ghost value = { λ s. row_value (share (case_of s.priced.case) (kept_prices (prices_of C.value s.priced.prices.now)) s.bus) s.priced.case.branches.now };
-
-    fn at(&self, row: usize) -> i64 {
-        if row < self.priced.case.branches.len() {
-            self.of(row, &self.priced.case.branches[row])
-        } else {
-            0
-        }
+        sum(self.case.nl, |row| self.share(bus, row))
     }
 }

@@ -3,7 +3,7 @@ use Rattle.measure.specs.Fraction.{whole, ◌≤ᶠ◌}
 use Rattle.network.specs.Model.{true_cost}
 use Rattle.network.specs.View.{case_of}
 use Rattle.pricing.specs.Kept.{prices_of}
-use Rattle.pricing.proofs.Kept.{passed}
+use Rattle.pricing.proofs.Kept.{gave}
 use Rattle.pricing.proofs.Exact.{floor_same}
 use Rattle.network.proofs.Duality.{floor_stands}
 use Rattle.pricing.proofs.floor.floor.Goals as goal
@@ -15,7 +15,7 @@ returns g c =
     let 𝓜 = g.M.Machine.meaning in
     let 𝓝 = g.N.Machine.meaning in
     let l = c.in_ok-check.ensures in
-    let e = passed c.floor.result c.floor.type_inv ∙ c.floor.ensures ∙ floor_same k q l 𝓜 𝓝 in
+    let e = gave c.floor.type_inv c.floor.ensures ∙ floor_same k q l 𝓜 𝓝 in
     record {
       lawful = l;
       exact = e;

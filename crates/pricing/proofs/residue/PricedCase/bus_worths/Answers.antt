@@ -1,23 +1,27 @@
-use Rattle.std.proofs.Common.{◌≤◌, ◌∙◌, arith, lit≤, w8, Fits, rules}
-use Rattle.measure.proofs.Sums.{rows-small, sum_rows}
+use Rattle.std.proofs.Common.{◌≡◌, ◌≤◌, ◌∙◌, sym, subst, arith, lit≤, w8, Fits, rules}
+use Rattle.measure.specs.Range.{Within}
+use Rattle.measure.specs.Rows.{row_value}
+use Rattle.measure.proofs.Sums.{rows-small, row_sum, few_within}
 use Rattle.network.specs.View.{case_of}
 use Rattle.pricing.specs.Kept.{prices_of, kept_prices, bus_worth}
-use Rattle.measure.proofs.Sums.{few_within}
 use Rattle.pricing.proofs.Kept.{passed, worth_within}
 use Rattle.pricing.proofs.residue.PricedCase.bus_worths.Goals as goal
 
-pub sum-requires : goal.sum-requires
-sum-requires g c =
+pub sum-requires-clause-small : goal.sum-requires-clause-small
+sum-requires-clause-small g c =
     let s = c.args.self.now in
     let q = prices_of g.C.Column.value s.prices.now in
-    rows-small 3300000000000000 (bus_worth (case_of s.case) (kept_prices q)) s.case.buses.now s.case.nb (lit≤ tt) (worth_within (case_of s.case) q)
+    let f = bus_worth (case_of s.case) (kept_prices q) in
+    λ i z l k.
+    let e : z ≡ row_value f s.case.buses.now i = search rules in
+    subst (Within 36000000000000000) (sym e) (rows-small 3300000000000000 f s.case.buses.now s.case.nb (lit≤ tt) (worth_within (case_of s.case) q) i l)
 
 pub returns : goal.returns
 returns g c =
     let s = c.args.self.now in
     let q = prices_of g.C.Column.value s.prices.now in
     let f = bus_worth (case_of s.case) (kept_prices q) in
-    let e = passed c.sum.result c.sum.type_inv ∙ c.sum.ensures ∙ sum_rows f s.case.buses.now s.case.nb in
+    let e = passed c.sum.result c.sum.type_inv ∙ row_sum f s.case.buses.now _ s.case.nb c.sum.result c.sum.ensures (λ i z l k. search rules) in
     let h : Fits w8 c.args.self.now.case.nb = search rules in
     let n : c.args.self.now.case.nb ≤ 255 = omega arith in
     record {

@@ -1,22 +1,25 @@
-use Rattle.std.proofs.Common.{◌∙◌, lit≤, w64}
-use Rattle.std.proofs.lemmas.Int.{to_z-of_z}
-use Rattle.measure.proofs.Sums.{rows-small, sum_rows}
+use Rattle.std.proofs.Common.{◌≡◌, ◌∙◌, sym, subst, lit≤, rules}
+use Rattle.measure.specs.Range.{Within}
+use Rattle.measure.specs.Rows.{row_value}
+use Rattle.measure.proofs.Sums.{rows-small, row_sum}
 use Rattle.network.specs.View.{case_of}
 use Rattle.pricing.specs.Kept.{prices_of, kept_prices, share}
-use Rattle.pricing.proofs.Kept.{share_within, residue-shares}
+use Rattle.pricing.proofs.Kept.{passed, share_within, residue-shares}
 use Rattle.pricing.proofs.residue.PricedCase.residue.Goals as goal
 
-pub sum-requires : goal.sum-requires
-sum-requires g c =
+pub sum-requires-clause-small : goal.sum-requires-clause-small
+sum-requires-clause-small g c =
     let s = c.args.self.now in
     let q = prices_of g.C.Column.value s.prices.now in
-    rows-small 6000200000000 (share (case_of s.case) (kept_prices q) c.args.bus) s.case.branches.now s.case.nl (lit≤ tt) (share_within (case_of s.case) q c.args.bus)
+    let f = share (case_of s.case) (kept_prices q) c.args.bus in
+    λ i z l k.
+    let e : z ≡ row_value f s.case.branches.now i = search rules in
+    subst (Within 36000000000000000) (sym e) (rows-small 6000200000000 f s.case.branches.now s.case.nl (lit≤ tt) (share_within (case_of s.case) q c.args.bus) i l)
 
 pub returns : goal.returns
 returns g c =
     let s = c.args.self.now in
     let q = kept_prices (prices_of g.C.Column.value s.prices.now) in
-    to_z-of_z w64 c.sum.result (record { sfits = c.sum.type_inv })
-    ∙ c.sum.ensures
-    ∙ sum_rows (share (case_of s.case) q c.args.bus) s.case.branches.now s.case.nl
+    passed c.sum.result c.sum.type_inv
+    ∙ row_sum (share (case_of s.case) q c.args.bus) s.case.branches.now _ s.case.nl c.sum.result c.sum.ensures (λ i z l k. search rules)
     ∙ residue-shares (case_of s.case) q c.args.bus

@@ -156,8 +156,8 @@ pub record WorthSizes (l d ρ : ℤ) : Type 0 where
   pub sum : SFits w64 (l *ℤ d -ℤ pos 3200000 *ℤ ∣ ρ ∣)
   pub within : Within 3300000000000000 (l *ℤ d -ℤ pos 3200000 *ℤ ∣ ρ ∣)
 
-pub worth-sizes : (l d ρ : ℤ) → Worth l d ρ → WorthSizes l d ρ
-worth-sizes l d ρ h =
+pub worth_sizes : (l d ρ : ℤ) → Worth l d ρ → WorthSizes l d ρ
+worth_sizes l d ρ h =
     let p = product_within 1000000 100000000 l d h.price h.demand in
     let z = abs_within 1000000000 ρ h.residue in
     let r = product_within 3200000 1000000000 (pos 3200000) ∣ ρ ∣ (omega (arith, lin), omega (arith, lin)) z in
@@ -204,7 +204,7 @@ module _ {M N : Type 0} (c : Case M N) (q : Prices) where
 
   pub worth_within : (b : Row Bus) → Within 3300000000000000 (bus_worth c (kept_prices q) b)
   unfolding bus_worth
-  worth_within b = (worth-sizes _ _ _ (worth_by b)).within
+  worth_within b = (worth_sizes _ _ _ (worth_by b)).within
 
   pub price_size_within : (b : Row Bus) → Within 1000000 (price_size c (kept_prices q) b)
   price_size_within b = abs_within 1000000 (price c (kept_prices q) b.row) (price_within c q b.row)

@@ -57,6 +57,7 @@ fn worth(price: i64, demand: i64, residue: i64) -> i64
 
 impl<'a, 'q, M, N, C: Column> PricedCase<'a, 'q, M, N, C> {
     // What the branch in that row is charged; 0 past the last row.
+    #[tactic(auto, using(measure::proofs::Sums::row_past))]
     fn charge(&self, row: usize) -> i64
         ensures { result ≡ row_value (kept_charge (case_of self.now.case) (kept_prices (prices_of C.value self.now.prices.now))) self.now.case.branches.now row }
     {
@@ -78,6 +79,7 @@ impl<'a, 'q, M, N, C: Column> PricedCase<'a, 'q, M, N, C> {
     }
 
     // What the bus in that row adds to the floor; 0 past the last row.
+    #[tactic(auto, using(measure::proofs::Sums::row_past))]
     fn bus_worth(&self, row: usize) -> i64
         ensures { result ≡ row_value (bus_worth (case_of self.now.case) (kept_prices (prices_of C.value self.now.prices.now))) self.now.case.buses.now row }
     {
@@ -89,6 +91,7 @@ impl<'a, 'q, M, N, C: Column> PricedCase<'a, 'q, M, N, C> {
     }
 
     // The size of the price at the bus in that row; 0 past the last row.
+    #[tactic(auto, using(crate::proofs::Kept::price_size_row))]
     fn price_size(&self, row: usize) -> i64
         ensures { result ≡ row_value (price_size (case_of self.now.case) (kept_prices (prices_of C.value self.now.prices.now))) self.now.case.buses.now row }
     {

@@ -56,6 +56,7 @@ impl<'a, 'q, M, N, C: Column> PricedCase<'a, 'q, M, N, C> {
 
 impl<'a, 'q, M: Machine, N: Machine, C: Column> PricedCase<'a, 'q, M, N, C> {
     // The floor of the list.
+    #[tactic(auto, unfolding(crate::specs::Kept::kept_floor))]
     fn floor(&self) -> i64
         ensures { result ≡ kept_floor M.meaning N.meaning (case_of self.now.case) (kept_prices (prices_of C.value self.now.prices.now)) }
     {

@@ -35,6 +35,7 @@ impl<'a, 'q, M, N, C: Column> PricedCase<'a, 'q, M, N, C> {
     }
 
     // Whether the branch in that row is in service without a rating and has a congestion price.
+    #[tactic(auto, using(measure::proofs::Sums::row_past))]
     fn is_unrated(&self, row: usize) -> bool
         ensures { result ≡ row_test (unrated (prices_of C.value self.now.prices.now)) self.now.case.branches.now row }
     {
@@ -45,6 +46,7 @@ impl<'a, 'q, M, N, C: Column> PricedCase<'a, 'q, M, N, C> {
     }
 
     // Whether the branch in that row is in service and its weight too large.
+    #[tactic(auto, using(measure::proofs::Sums::row_past))]
     fn is_overweight(&self, row: usize) -> bool
         ensures { result ≡ row_test (overweight (case_of self.now.case) (kept_prices (prices_of C.value self.now.prices.now))) self.now.case.branches.now row }
     {

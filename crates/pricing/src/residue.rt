@@ -34,6 +34,7 @@ fn weighed(susceptance: i64, from: i64, to: i64, congestion: i64) -> i64
 
 impl<'a, 'q, M, N, C: Column> PricedCase<'a, 'q, M, N, C> {
     // The price at the bus in that row; 0 at a row that the case lacks.
+    #[tactic(auto, unfolding(network::specs::Floor::price))]
     pub(crate) fn price_at(&self, row: usize) -> i64
         ensures { result ≡ price (case_of self.now.case) (kept_prices (prices_of C.value self.now.prices.now)) row }
     {
@@ -61,6 +62,7 @@ impl<'a, 'q, M, N, C: Column> PricedCase<'a, 'q, M, N, C> {
     }
 
     // The weight of the branch in that row.
+    #[tactic(auto, unfolding(network::specs::Floor::weight))]
     pub(crate) fn weight(&self, row: usize, branch: &Branch) -> i64
         ensures { result ≡ weight (case_of self.now.case) (kept_prices (prices_of C.value self.now.prices.now)) (record { item = branch.now; row = row }) }
     {
@@ -83,6 +85,7 @@ impl<'a, 'q, M, N, C: Column> PricedCase<'a, 'q, M, N, C> {
     }
 
     // What the branch in that row adds to the residue of the bus; 0 past the last row.
+    #[tactic(auto, using(measure::proofs::Sums::row_past))]
     fn share(&self, bus: usize, row: usize) -> i64
         ensures { result ≡ row_value (share (case_of self.now.case) (kept_prices (prices_of C.value self.now.prices.now)) bus) self.now.case.branches.now row }
     {

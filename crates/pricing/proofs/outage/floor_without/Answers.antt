@@ -1,4 +1,4 @@
-use Rattle.std.proofs.Common.{take, inr, arith}
+use Rattle.std.proofs.Common.{take, arith}
 use Rattle.std.proofs.lemmas.List.{length-take}
 use Rattle.measure.proofs.Sums.{stands_below}
 use Rattle.pricing.proofs.outage.floor_without.Goals as goal
@@ -9,6 +9,3 @@ floor_out-requires g c =
     let l = stands_below (take c.args.stations.nl c.args.branches.now) c.in-Some.row h.0.item h.0.stands in
     let t = length-take c.args.stations.nl c.args.branches.now in
     omega arith
-
-pub returns : goal.returns
-returns g c = record { floored = inr (record { row = c.in-Some.row; lowest = c.in-Some.ensures; floored = c.floor_out.ensures.floored }); unchanged = c.floor_out.ensures.unchanged }

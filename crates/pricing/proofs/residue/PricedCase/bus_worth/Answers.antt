@@ -1,9 +1,9 @@
-use Rattle.std.proofs.Common.{sym, ltb, pos, ◌-ℤ◌, ◌*ℤ◌, ap, ◌∙◌, lit<, w64}
+use Rattle.std.proofs.Common.{ltb, pos, ◌-ℤ◌, ◌*ℤ◌, ap, ◌∙◌, lit<, w64}
 use Rattle.std.proofs.lemmas.Int.{to_z-of_z}
 use Rattle.measure.specs.Range.{∣◌∣}
 use Rattle.measure.specs.Rows.{only}
 use Rattle.measure.proofs.Sizes.{fits}
-use Rattle.measure.proofs.Sums.{row_got, row_past}
+use Rattle.measure.proofs.Sums.{row_got}
 use Rattle.network.specs.View.{case_of}
 use Rattle.pricing.specs.Kept.{prices_of, kept_prices, kept_residue, bus_worth}
 use Rattle.pricing.proofs.Kept.{gave, worth_by}
@@ -30,7 +30,3 @@ returns g c =
     let o = gave c.only_if.type_inv c.only_if.ensures ∙ ap (only (ltb 0 c.args.row)) k in
     row_got (pos 0) (bus_worth (case_of s.case) (kept_prices (prices_of g.C.Column.value s.prices.now))) s.case.buses.now c.args.row b _ c.in-Some.ensures.lookup.3
     (gave c.worth.type_inv c.worth.ensures ∙ (λ i. p i *ℤ d i -ℤ pos 3200000 *ℤ ∣ o i ∣))
-
-pub returns-in_default : goal.returns-in_default
-returns-in_default g c =
-    sym (row_past (pos 0) _ 0 c.args.self.now.case.buses.now c.args.row c.in_default.ensures.lookup.3)

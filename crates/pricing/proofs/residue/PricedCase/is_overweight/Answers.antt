@@ -1,6 +1,6 @@
-use Rattle.std.proofs.Common.{sym, false, not, ◌&&◌, pos, neg_ℤ, ap, ◌∙◌}
+use Rattle.std.proofs.Common.{false, not, ◌&&◌, pos, neg_ℤ, ap, ◌∙◌}
 use Rattle.measure.specs.Range.{between}
-use Rattle.measure.proofs.Sums.{row_got, row_past}
+use Rattle.measure.proofs.Sums.{row_got}
 use Rattle.network.specs.View.{case_of}
 use Rattle.pricing.specs.Kept.{prices_of, kept_prices, overweight}
 use Rattle.pricing.proofs.Kept.{gave}
@@ -12,7 +12,3 @@ returns g c =
     let b = c.in-Some.branch.now in
     row_got false (overweight (case_of s.case) (kept_prices (prices_of g.C.Column.value s.prices.now))) s.case.branches.now c.args.row b _ c.in-Some.ensures.lookup.3
     (ap (λ t. b.service && not t) (c.is_between.ensures ∙ ap (between (neg_ℤ (pos 10000000000)) (pos 10000000000)) (gave c.weight.type_inv c.weight.ensures)))
-
-pub returns-in_default : goal.returns-in_default
-returns-in_default g c =
-    sym (row_past false _ 0 c.args.self.now.case.branches.now c.args.row c.in_default.ensures.lookup.3)

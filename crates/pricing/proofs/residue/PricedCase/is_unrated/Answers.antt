@@ -1,5 +1,5 @@
-use Rattle.std.proofs.Common.{sym, false, not, ◌&&◌, ap, ◌∙◌}
-use Rattle.measure.proofs.Sums.{row_got, row_past}
+use Rattle.std.proofs.Common.{false, not, ◌&&◌, ap, ◌∙◌}
+use Rattle.measure.proofs.Sums.{row_got}
 use Rattle.pricing.specs.Kept.{prices_of, unrated, is_zero}
 use Rattle.pricing.proofs.Kept.{rating_fits}
 use Rattle.pricing.proofs.PriceLists.{zero_bits}
@@ -13,7 +13,3 @@ returns g c =
     let m = zero_bits c.at.result c.at.type_inv ∙ ap is_zero c.at.ensures in
     row_got false (unrated (prices_of g.C.Column.value s.prices.now)) s.case.branches.now c.args.row b _ c.in-Some.ensures.lookup.3
     (λ i. b.service && r i && not (m i))
-
-pub returns-in_default : goal.returns-in_default
-returns-in_default g c =
-    sym (row_past false _ 0 c.args.self.now.case.branches.now c.args.row c.in_default.ensures.lookup.3)

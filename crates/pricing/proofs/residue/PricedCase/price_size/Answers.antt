@@ -1,9 +1,8 @@
-use Rattle.std.proofs.Common.{refl, ap, ◌∙◌, arith}
-use Rattle.measure.specs.Range.{∣◌∣}
+use Rattle.std.proofs.Common.{arith}
 use Rattle.measure.proofs.Laws.{lin}
 use Rattle.network.specs.View.{case_of}
-use Rattle.pricing.specs.Kept.{prices_of, kept_prices}
-use Rattle.pricing.proofs.Kept.{gave, price_within, price_size_row}
+use Rattle.pricing.specs.Kept.{prices_of}
+use Rattle.pricing.proofs.Kept.{gave, price_within}
 use Rattle.pricing.proofs.residue.PricedCase.price_size.Goals as goal
 
 pub size-requires : goal.size-requires
@@ -11,10 +10,3 @@ size-requires g c =
     let s = c.args.self.now in
     let w = price_within (case_of s.case) (prices_of g.C.Column.value s.prices.now) c.args.row in
     rw (gave c.price_at.type_inv c.price_at.ensures) (omega (arith, lin, w.0), omega (arith, lin, w.1))
-
-pub returns : goal.returns
-returns g c =
-    let s = c.args.self.now in
-    gave c.size.type_inv c.size.ensures
-    ∙ ap ∣◌∣ (gave c.price_at.type_inv c.price_at.ensures)
-    ∙ price_size_row (case_of s.case) (kept_prices (prices_of g.C.Column.value s.prices.now)) s.case.buses.now s.case.nb c.args.row refl

@@ -1,7 +1,7 @@
-use Rattle.std.proofs.Common.{eqb, pos, ◌-ℤ◌, sym, ◌∙◌, ap₂, lit<}
+use Rattle.std.proofs.Common.{eqb, pos, ◌-ℤ◌, ◌∙◌, ap₂, lit<}
 use Rattle.measure.specs.Rows.{only}
 use Rattle.measure.proofs.Sizes.{fits}
-use Rattle.measure.proofs.Sums.{row_got, row_past}
+use Rattle.measure.proofs.Sums.{row_got}
 use Rattle.network.specs.View.{case_of}
 use Rattle.pricing.specs.Kept.{prices_of, kept_prices, share}
 use Rattle.pricing.proofs.Kept.{gave, fits_as, passed_as, share_within}
@@ -27,7 +27,3 @@ returns g c =
     let a = gave c.only_if-arriving.type_inv c.only_if-arriving.ensures ∙ ap₂ (λ n z. only (eqb n c.args.bus) z) c.from-2.ensures p in
     row_got (pos 0) (share (case_of s.case) (kept_prices q) c.args.bus) s.case.branches.now c.args.row b _ c.in-Some.ensures.lookup.3
     (passed_as (λ i. l i -ℤ a i) (fits 6000200000000 _ (lit< tt) (share_within (case_of s.case) q c.args.bus (record { item = b; row = c.args.row }))))
-
-pub returns-in_default : goal.returns-in_default
-returns-in_default g c =
-    sym (row_past (pos 0) _ 0 c.args.self.now.case.branches.now c.args.row c.in_default.ensures.lookup.3)

@@ -1,6 +1,6 @@
-use Rattle.std.proofs.Common.{◌+ℤ◌, ◌-ℤ◌, ◌*ℤ◌, ap, ◌∙◌, w64}
+use Rattle.std.proofs.Common.{ap, ◌∙◌, w64}
 use Rattle.std.proofs.lemmas.Int.{to_z-of_z}
-use Rattle.network.specs.Floor.{price, weight}
+use Rattle.network.specs.Floor.{price}
 use Rattle.network.specs.View.{case_of}
 use Rattle.pricing.specs.Kept.{prices_of, kept_prices}
 use Rattle.pricing.proofs.Kept.{gave, susceptance_fits, weighed_by}
@@ -19,16 +19,3 @@ weighed-requires g c =
       gave c.congestion_at.type_inv c.congestion_at.ensures,
     )
     (weighed_by k q (record { item = b; row = c.args.row }))
-
-pub returns : goal.returns
-unfolding weight
-returns g c =
-    let s = c.args.self.now in
-    let b = c.args.branch.now in
-    let k = case_of s.case in
-    let q = kept_prices (prices_of g.C.Column.value s.prices.now) in
-    let e = to_z-of_z w64 b.susceptance (susceptance_fits b) in
-    let f = gave c.price_at.type_inv c.price_at.ensures ∙ ap (price k q) c.from.ensures in
-    let t = gave c.price_at-2.type_inv c.price_at-2.ensures ∙ ap (price k q) c.from-2.ensures in
-    let m = gave c.congestion_at.type_inv c.congestion_at.ensures in
-    gave c.weighed.type_inv c.weighed.ensures ∙ (λ i. e i *ℤ (f i -ℤ t i +ℤ m i))

@@ -1,16 +1,16 @@
 -- A price list whose numbers outside their ranges count as 0: the sizes of its quantities.
-use Rattle.std.proofs.Common.{◌≡◌, ℕ, ◌^◌, ◌<◌, ◌≤◌, cond, eqb, ltb, List, length, take, ℤ, pos, negsuc, ◌+ℤ◌, ◌-ℤ◌, ◌*ℤ◌, sym, refl, ap, ◌∙◌, subst, arith, lit<, w64, SFits, to_z, of_z}
+use Rattle.std.proofs.Common.{◌≡◌, ℕ, suc, ◌*◌, ◌^◌, ◌<◌, ◌≤◌, cond, eqb, ltb, List, length, take, ℤ, pos, negsuc, ◌+ℤ◌, ◌-ℤ◌, ◌*ℤ◌, sym, refl, ap, ◌∙◌, subst, arith, lit<, w64, SFits, to_z, of_z}
 use native.Mathlib.Decide.{dec_lt}
 use lib.Signed.{mag, non_neg, le_z}
 use Rattle.std.proofs.lemmas.Int.{to_z-of_z}
 use Rattle.std.proofs.lemmas.Bool.{cond_both, le-leb}
 use Rattle.std.proofs.lemmas.List.{length-take}
 use Rattle.measure.specs.Range.{Within, ∣◌∣}
-use Rattle.measure.specs.Rows.{Row, rows, total, only, row_value}
+use Rattle.measure.specs.Rows.{Row, rows, total, only, row_value, IsSumOf}
 use Rattle.measure.proofs.Laws.{lin}
 use Rattle.measure.proofs.Order.{product_within, kept-within}
 use Rattle.measure.proofs.Sizes.{fits}
-use Rattle.measure.proofs.Sums.{total_sub, row_past, row_is}
+use Rattle.measure.proofs.Sums.{total_sub, row_past, row_is, rows-small, row_sum, few_within}
 use Rattle.network.specs.declared.bus.Bus.{Bus}
 use Rattle.network.specs.declared.branch.Branch.{Branch}
 use Rattle.network.specs.Ranges.{Weighed, Stretched, Charged, Worth}
@@ -220,3 +220,13 @@ module _ {M N : Type 0} (c : Case M N) (q : Prices) where
             let l : length c.buses ≤ i = omega arith in
             ap ∣◌∣ (price_beyond c q i l) ∙ sym (row_past (pos 0) (price_size c q) 0 bs i (omega arith))
       ]
+
+-- ---- sums over rows: of what is small at each row, over at most 255 of them
+pub row_small : {X : Type 0} (m : ℕ) (f : Row X → ℤ) (xs : List X) (i : ℕ) (z : ℤ) → m ≤ 36000000000000000 → ((r : Row X) → Within m (f r)) → z ≡ row_value f xs i → Within 36000000000000000 z
+row_small m f xs i z l w e =
+    subst (Within 36000000000000000) (sym e) (rows-small m f xs (suc i) l w i (omega arith))
+
+pub summed_rows : {X : Type 0} (m : ℕ) (f : Row X → ℤ) (xs : List X) (gives : ℕ → ℤ → Type 0) (n : ℕ) (z : ℤ) → mag z < 2 ^ 63 → n ≤ 255 → ((r : Row X) → Within m (f r)) → IsSumOf gives n z → ((i : ℕ) (x : ℤ) → i < n → gives i x → x ≡ row_value f xs i) → Within (255 * m) (to_z w64 (of_z w64 z)) × (to_z w64 (of_z w64 z) ≡ total f (rows (take n xs)))
+summed_rows m f xs gives n z h few w s each =
+    let e = gave h (row_sum f xs gives n z s each) in
+    (subst (Within (255 * m)) (sym e) (few_within m f xs n few w), e)

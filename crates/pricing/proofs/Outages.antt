@@ -57,12 +57,6 @@ own_mark [] i d h = absurd (omega arith)
 own_mark (b ∷ bs) zero d h = refl
 own_mark (b ∷ bs) (suc i) d h = ap (λ xs. b ∷ xs) (own_mark bs i d (omega arith))
 
-pub length_mark : (bs : List Branch) (i : ℕ) (m : Bool) → length (with_mark bs i m) ≡ length bs
-unfolding with_mark
-length_mark [] i m = refl
-length_mark (b ∷ bs) zero m = refl
-length_mark (b ∷ bs) (suc i) m = ap suc (length_mark bs i m)
-
 -- the first rows of a table with a mark set in one of them
 pub take_mark : (n : ℕ) (bs : List Branch) (i : ℕ) (m : Bool) → take n (with_mark bs i m) ≡ with_mark (take n bs) i m
 unfolding with_mark

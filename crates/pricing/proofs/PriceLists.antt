@@ -1,5 +1,5 @@
 -- From the tests of a price list to its lawfulness, and from the quantities of a list in range to those of the floor.
-use Rattle.std.proofs.Common.{◌≡◌, ℕ, zero, suc, ◌+◌, ◌-◌, ◌^◌, ◌<◌, Bool, true, false, not, ◌&&◌, T, eqb, ltb, List, [], ◌∷◌, length, ℤ, pos, negsuc, ◌+ℤ◌, ◌-ℤ◌, ◌*ℤ◌, neg_ℤ, Some, None, Option, sym, refl, ap, subst, inr, ⊎_elim, arith, ltb→lt, w64, of_z, MatchOption}
+use Rattle.std.proofs.Common.{◌≡◌, ℕ, zero, suc, ◌+◌, ◌-◌, ◌^◌, ◌<◌, Bool, true, false, not, ◌&&◌, T, eqb, ltb, List, [], ◌∷◌, length, ℤ, pos, negsuc, ◌+ℤ◌, ◌-ℤ◌, ◌*ℤ◌, neg_ℤ, Some, None, Option, sym, refl, ap, subst, ⊎_elim, arith, ltb→lt, w64, of_z}
 use lib.Signed.{mag}
 use Rattle.std.proofs.lemmas.Bool.{ne_eqb, eqb-true, false≢true, both_ways, cases_Bool, and_parts, and_from, or_cases, or_parts, not-true, not-false, not_from_false}
 use Rattle.measure.specs.Range.{Within, between}
@@ -12,7 +12,7 @@ use Rattle.network.specs.declared.refusal.Refusal.TheVariants.{Unrated, Weight, 
 use Rattle.network.specs.Model.{Case}
 use Rattle.network.specs.Floor.{Prices, price, weight, pull, residue, LawfulList}
 use Rattle.pricing.specs.Kept.{kept_price, kept_angle_price, kept_prices, bus_price_beyond, branch_price_beyond, is_zero, unrated, overweight, residue_beyond}
-use Rattle.network.specs.Floored.{BusPricesKept, BranchPricesKept, NoneUnrated, WeightsKept, BusPriceBeyond, BranchPriceBeyond, OutOfRangeAt, UnratedRow, WeightBeyond, ResidueBeyond, Refused}
+use Rattle.network.specs.Floored.{BusPricesKept, BranchPricesKept, NoneUnrated, WeightsKept, BusPriceBeyond, BranchPriceBeyond, UnratedRow, WeightBeyond, ResidueBeyond, Refused}
 use Rattle.pricing.proofs.RowLimits.{lowest-as, none_broken}
 
 -- ---- tests
@@ -119,19 +119,6 @@ module _ {M N : Type 0} (c : Case M N) (q : Prices) where
   branch_lowest r h =
       lowest-as (λ i. (i < length c.branches) × (branch_price_beyond q i ≡ true)) (BranchPriceBeyond c q)
       (λ i k. (k.0, branch_beyond_true q i k.1)) (λ i k. (k.0, true_branch_beyond q i k.1)) r h
-
-  pub bus_kept : Lowest (BusPriceBeyond c q) None → BusPricesKept c q
-  bus_kept none i l = within_unless 1000000 (q.bus i) (λ out. none i (l, out))
-
-  pub branch_kept : Lowest (BranchPriceBeyond c q) None → BranchPricesKept c q
-  branch_kept none i l = (
-    within_unless 1000000 (q.congestion i) (λ out. none i (l, λ h. out h.0)),
-    within_unless 100000000 (q.angle i) (λ out. none i (l, λ h. out h.1)),
-  )
-
-  pub price_checked : Lowest (BusPriceBeyond c q) None → (r : Option ℕ) → Lowest (BranchPriceBeyond c q) r → MatchOption r (BusPricesKept c q × BranchPricesKept c q) (OutOfRangeAt c q)
-  price_checked none None h = (bus_kept none, branch_kept h)
-  price_checked none (Some i) h = inr (bus_kept none, h)
 
   pub residue_lowest : (r : Option ℕ) → Lowest (λ i. (i < length c.buses) × (residue_beyond c q i ≡ true)) r → Lowest (ResidueBeyond c q) r
   residue_lowest r h =

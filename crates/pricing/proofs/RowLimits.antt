@@ -1,13 +1,18 @@
 -- Limits by row: from a test of each row to what holds of the table's rows.
 use Rattle.std.proofs.Common.{◌≡◌, ℕ, zero, suc, ◌+◌, ◌<◌, Bool, true, false, List, [], ◌∷◌, take, Some, None, Option, sym, refl, ap, ◌∙◌, subst, arith}
 use Rattle.std.proofs.lemmas.Bool.{false≢true}
-use Rattle.measure.specs.Rows.{Row, rows, All, Stands, HoldsAt, Lowest, row_or, row_test}
-use Rattle.measure.proofs.Sums.{each, row_stands}
+use Rattle.measure.specs.Rows.{Row, rows, All, Stands, HoldsAt, Lowest, row_or, row_test, IsFirstOf}
+use Rattle.measure.proofs.Sums.{each, row_stands, first_of-lowest}
 
 -- the lowest of which P holds is the lowest of which Q holds, where the two say the same
 pub lowest-as : (P Q : ℕ → Type 0) → ((i : ℕ) → P i → Q i) → ((i : ℕ) → Q i → P i) → (r : Option ℕ) → Lowest P r → Lowest Q r
 lowest-as P Q to from None h = λ i k. h i (from i k)
 lowest-as P Q to from (Some i) h = (to i h.0, λ j l k. h.1 j l (from j k))
+
+-- the lowest of a table's m rows that passes a test, where each of the first n is tested
+pub first_below : (test : ℕ → Bool) (gives : ℕ → Bool → Type 0) (n m : ℕ) (r : Option ℕ) → n ≡ m → IsFirstOf gives n r → ((i : ℕ) (b : Bool) → i < n → gives i b → b ≡ test i) → Lowest (λ i. (i < m) × (test i ≡ true)) r
+first_below test gives n m r e s each =
+    subst (λ k. Lowest (λ i. (i < k) × (test i ≡ true)) r) e (first_of-lowest test gives n r s each)
 
 -- row i of a table's first n rows passes the test
 module _ {X : Type 0} (f : Row X → Bool) where

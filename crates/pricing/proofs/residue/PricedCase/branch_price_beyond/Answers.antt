@@ -1,8 +1,7 @@
-use Rattle.std.proofs.Common.{◌≡◌, ◌<◌, true, subst, rules}
-use Rattle.measure.specs.Rows.{Lowest}
-use Rattle.measure.proofs.Sums.{first_of-lowest}
+use Rattle.std.proofs.Common.{rules}
 use Rattle.network.specs.View.{case_of}
 use Rattle.pricing.specs.Kept.{prices_of, branch_price_beyond}
+use Rattle.pricing.proofs.RowLimits.{first_below}
 use Rattle.pricing.proofs.PriceLists.{branch_lowest}
 use Rattle.pricing.proofs.residue.PricedCase.branch_price_beyond.Goals as goal
 
@@ -10,5 +9,4 @@ pub returns : goal.returns
 returns g c =
     let s = c.args.self.now in
     let q = prices_of g.C.Column.value s.prices.now in
-    let h = first_of-lowest (branch_price_beyond q) _ c.rows_used-branches.result _ c.first_broken.ensures (λ i b l k. search rules) in
-    branch_lowest (case_of s.case) q c.first_broken.result (subst (λ n. Lowest (λ i. (i < n) × (branch_price_beyond q i ≡ true)) c.first_broken.result) c.rows_used-branches.ensures h)
+    branch_lowest (case_of s.case) q c.first_broken.result (first_below (branch_price_beyond q) _ c.rows_used-branches.result _ _ c.rows_used-branches.ensures c.first_broken.ensures (λ i b l k. search rules))

@@ -1,30 +1,21 @@
-use Rattle.std.proofs.Common.{◌≡◌, ◌≤◌, ◌∙◌, sym, subst, arith, lit≤, w8, Fits, rules}
-use Rattle.measure.specs.Range.{Within}
-use Rattle.measure.specs.Rows.{row_value}
-use Rattle.measure.proofs.Sums.{rows-small, row_sum, few_within}
+use Rattle.std.proofs.Common.{◌≤◌, arith, lit≤, w8, Fits, rules}
 use Rattle.network.specs.View.{case_of}
 use Rattle.pricing.specs.Kept.{prices_of, kept_prices, bus_worth}
-use Rattle.pricing.proofs.Kept.{passed, worth_within}
+use Rattle.pricing.proofs.Kept.{worth_within, row_small, summed_rows}
 use Rattle.pricing.proofs.residue.PricedCase.bus_worths.Goals as goal
 
 pub sum-requires-clause-small : goal.sum-requires-clause-small
 sum-requires-clause-small g c =
     let s = c.args.self.now in
     let q = prices_of g.C.Column.value s.prices.now in
-    let f = bus_worth (case_of s.case) (kept_prices q) in
     λ i z l k.
-    let e : z ≡ row_value f s.case.buses.now i = search rules in
-    subst (Within 36000000000000000) (sym e) (rows-small 3300000000000000 f s.case.buses.now s.case.nb (lit≤ tt) (worth_within (case_of s.case) q) i l)
+    row_small 3300000000000000 (bus_worth (case_of s.case) (kept_prices q)) s.case.buses.now i z (lit≤ tt) (worth_within (case_of s.case) q) (search rules)
 
 pub returns : goal.returns
 returns g c =
     let s = c.args.self.now in
     let q = prices_of g.C.Column.value s.prices.now in
-    let f = bus_worth (case_of s.case) (kept_prices q) in
-    let e = passed c.sum.result c.sum.type_inv ∙ row_sum f s.case.buses.now _ s.case.nb c.sum.result c.sum.ensures (λ i z l k. search rules) in
     let h : Fits w8 c.args.self.now.case.nb = search rules in
     let n : c.args.self.now.case.nb ≤ 255 = omega arith in
-    record {
-      small = rw e (few_within 3300000000000000 f s.case.buses.now s.case.nb n (worth_within (case_of s.case) q));
-      exact = e;
-    }
+    let k = summed_rows 3300000000000000 (bus_worth (case_of s.case) (kept_prices q)) s.case.buses.now _ s.case.nb c.sum.result c.sum.type_inv n (worth_within (case_of s.case) q) c.sum.ensures (λ i z l k. search rules) in
+    record { small = k.0; exact = k.1 }

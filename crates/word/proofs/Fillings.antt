@@ -3,27 +3,27 @@ use Rattle.std.proofs.Common.{◌≡◌, ℕ, zero, suc, ◌+◌, ◌*◌, ◌<�
 use Rattle.std.specs.List.{AllByRecursion}
 use Rattle.std.proofs.lemmas.List.{get_or-append-add, get_or_past}
 use Rattle.std.proofs.lemmas.Bool.{cases_lt}
-use Rattle.word.specs.Word.{kind_number, amount_of, word_of, amount_word}
+use Rattle.word.specs.Word.{amount_of, word_of, amount_word}
 use Rattle.word.specs.Laws.{Short}
 use Rattle.word.specs.Slot.{Fits, Matches}
 use Rattle.word.specs.Run.{in_turn}
 use Rattle.word.specs.Column.{column_value}
 use Rattle.word.specs.declared.kind.Kind.TheVariants as kind
 use Rattle.word.specs.declared.slot.Slot.TheVariants.{Head, Amount, End}
-use Rattle.word.proofs.Words.{word_at, kind_word, amount_same, amount_back, amount_kind}
+use Rattle.word.proofs.Words.{known, word_at, kind_word, amount_same, amount_back, amount_kind}
 use Rattle.word.proofs.Columns.{value_in, value_out}
 
 pub head_known : kind.Head ≡ kind.Unknown → ⊥
-head_known e = let z : ◌≡◌ {A = ℕ} 1 0 = ap kind_number e in omega arith
+head_known = known kind.Head (omega arith)
 
 pub bus_known : kind.Bus ≡ kind.Unknown → ⊥
-bus_known e = let z : ◌≡◌ {A = ℕ} 2 0 = ap kind_number e in omega arith
+bus_known = known kind.Bus (omega arith)
 
 pub branch_known : kind.Branch ≡ kind.Unknown → ⊥
-branch_known e = let z : ◌≡◌ {A = ℕ} 5 0 = ap kind_number e in omega arith
+branch_known = known kind.Branch (omega arith)
 
 pub end_known : kind.End ≡ kind.Unknown → ⊥
-end_known e = let z : ◌≡◌ {A = ℕ} 7 0 = ap kind_number e in omega arith
+end_known = known kind.End (omega arith)
 
 pub head_word : (h x : ℕ) → Fits (Head h) x → x ≡ word_of kind.Head h
 head_word h x f = word_at x kind.Head h f.0 head_known f.1

@@ -1,5 +1,5 @@
 -- Runs of amounts within a range, and the words of a head, a name and an end.
-use Rattle.std.proofs.Common.{◌≡◌, ℕ, zero, suc, ◌+◌, ◌*◌, ◌<◌, List, [], ◌∷◌, ◌++◌, map, length, get_or, ℤ, pos, ◌≤ℤ◌, sym, refl, ap, ◌∙◌, subst, inl, inr, arith}
+use Rattle.std.proofs.Common.{rules, ◌≡◌, ℕ, zero, suc, ◌+◌, ◌*◌, ◌<◌, List, [], ◌∷◌, ◌++◌, map, length, get_or, ℤ, pos, ◌≤ℤ◌, sym, refl, ap, ◌∙◌, subst, inl, inr, arith}
 use Rattle.std.specs.List.{AllByRecursion}
 use Rattle.std.proofs.lemmas.List.{get_or-append-add, get_or_past}
 use Rattle.std.proofs.lemmas.Bool.{cases_lt}
@@ -10,20 +10,20 @@ use Rattle.word.specs.Run.{in_turn}
 use Rattle.word.specs.Column.{column_value}
 use Rattle.word.specs.declared.kind.Kind.TheVariants as kind
 use Rattle.word.specs.declared.slot.Slot.TheVariants.{Head, Amount, End}
-use Rattle.word.proofs.Words.{known, word_at, kind_word, amount_same, amount_back, amount_kind}
+use Rattle.word.proofs.Words.{word_at, kind_word, amount_same, amount_back, amount_kind}
 use Rattle.word.proofs.Columns.{value_in, value_out}
 
 pub head_known : kind.Head ≡ kind.Unknown → ⊥
-head_known = known kind.Head (omega arith)
+head_known e = search rules
 
 pub bus_known : kind.Bus ≡ kind.Unknown → ⊥
-bus_known = known kind.Bus (omega arith)
+bus_known e = search rules
 
 pub branch_known : kind.Branch ≡ kind.Unknown → ⊥
-branch_known = known kind.Branch (omega arith)
+branch_known e = search rules
 
 pub end_known : kind.End ≡ kind.Unknown → ⊥
-end_known = known kind.End (omega arith)
+end_known e = search rules
 
 pub head_word : (h x : ℕ) → Fits (Head h) x → x ≡ word_of kind.Head h
 head_word h x f = word_at x kind.Head h f.0 head_known f.1

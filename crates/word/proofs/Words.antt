@@ -1,5 +1,5 @@
 -- The round trip of a word.
-use Rattle.std.proofs.Common.{◌≡◌, ℕ, ◌+◌, ◌*◌, ◌/◌, ◌%◌, ◌^◌, ◌<◌, [], ◌∷◌, ℤ, pos, negsuc, sym, refl, ap, ◌∙◌, arith, w64, SFits, of_z}
+use Rattle.std.proofs.Common.{rules, ◌≡◌, ℕ, ◌+◌, ◌*◌, ◌/◌, ◌%◌, ◌^◌, ◌<◌, [], ◌∷◌, ℤ, pos, negsuc, sym, refl, ap, ◌∙◌, arith, w64, SFits, of_z}
 use Rattle.std.proofs.lemmas.Int.{ints}
 use Rattle.std.proofs.lemmas.Bool.Decides.{nat_tests}
 use Rattle.word.specs.Word.{kind_number, kind_numbered, kind_of, payload_of, amount_of, word_of, signed_of, payload_for, amount_word, of_bytes, bytes_of}
@@ -57,14 +57,10 @@ amount_kind z = kind_word Amount (payload_for z) (payload_short z)
 signed_back : (p : ℕ) → p < 2 ^ 28 → payload_for (signed_of p) ≡ p
 signed_back p h = grind (arith, ints, nat_tests)
 
--- a kind that a word of a paper has
-pub known : (k : Kind) → 0 < kind_number k → k ≡ Unknown → ⊥
-known k h e = let z = ap kind_number e in omega arith
-
 pub amount_same : (w : ℕ) → kind_of w ≡ Amount → amount_word (amount_of w) ≡ w
 unfolding amount_of amount_word
 amount_same w e =
-    ap (word_of Amount) (signed_back (payload_of w) (omega arith)) ∙ sym (word_is w Amount e (known Amount (omega arith)))
+    ap (word_of Amount) (signed_back (payload_of w) (omega arith)) ∙ sym (word_is w Amount e (λ k. search rules))
 
 -- the low 28 bits of a number of 64
 pub low_bits : (z : ℤ) → SFits w64 z → of_z w64 z % 2 ^ 28 ≡ payload_for z

@@ -7,24 +7,24 @@ use Rattle.std.proofs.lemmas.Int.{ints}
 use Rattle.word.specs.Word.{amount_of, word_of, amount_word}
 use Rattle.word.specs.Laws.{Short}
 use Rattle.word.specs.Slot.{Matches}
-use Rattle.word.specs.Run.{slots_of, in_turn}
+use Rattle.word.specs.Run.{in_turn}
 use Rattle.word.specs.Column.{column_value}
 use Rattle.word.specs.declared.kind.Kind.TheVariants as kind
-use Rattle.word.specs.declared.run.Run.{Run}
+use Rattle.word.specs.declared.slot.Slot.{Slot}
 use Rattle.word.specs.declared.slot.Slot.TheVariants.{Head, End}
 use Rattle.word.proofs.Fillings.{head_word, head_fits, end_fits, last_word, run_words, words_run, column_run}
 use Rattle.word.proofs.Slots.{matches_join, matches_parts}
 use Rattle.paper.specs.Range.{Power, Angle, power_slot, angle_slot}
 use Rattle.paper.specs.Dispatch.{Dispatch, dispatch_words, InUnits, LawfulDispatch, DispatchForm}
 use Rattle.paper.specs.Write.{dispatch_of, ReadsBack}
-use Rattle.paper.proofs.Layouts.{one, many, power_short, angle-short, form_exact}
+use Rattle.paper.proofs.Layouts.{Layout, power_short, angle-short, form_exact}
 use Rattle.paper.proofs.Tables.{Begun, begun-run, begun-one}
 
-abbrev pub dispatch_runs : ℕ → ℕ → List Run
-dispatch_runs n m = one (Head 2) ∷ many n power_slot ∷ many m angle_slot ∷ one End ∷ []
+abbrev pub dispatch_slots : ℕ → ℕ → List Slot
+dispatch_slots n m = Head 2 ∷ (in_turn n power_slot power_slot ++ (in_turn m angle_slot angle_slot ++ (End ∷ [])))
 
 -- words that fit the places are those of a lawful dispatch
-pub dispatch-to : (n m : ℕ) (w : List ℕ) → Matches (slots_of (dispatch_runs n m)) w → DispatchForm n m w
+dispatch-to : (n m : ℕ) (w : List ℕ) → Matches (dispatch_slots n m) w → DispatchForm n m w
 dispatch-to n m [] s = absurd s
 dispatch-to n m (h ∷ w) s =
     let eh = head_word 2 h s.0 in
@@ -39,14 +39,14 @@ dispatch-to n m (h ∷ w) s =
       (λ i. eh i ∷ (p.whole ∙ (λ j. x.0 j ++ (q.whole ∙ (λ k. y.0 k ++ l k)) j)) i),
     )
 
-pub dispatch-from : (n m : ℕ) (w : List ℕ) → DispatchForm n m w → Matches (slots_of (dispatch_runs n m)) w
+dispatch-from : (n m : ℕ) (w : List ℕ) → DispatchForm n m w → Matches (dispatch_slots n m) w
 dispatch-from n m w (d, l, e) =
     let u = l.units in
     let x = words_run (negsuc 99999999) (pos 100000000) power_short d.powers u.powers in
     let y = words_run (negsuc 3199999) (pos 3200000) angle-short d.angles u.angles in
     let x' = subst (λ (k : ℕ). Matches (in_turn k power_slot power_slot) (map amount_word d.powers)) l.machines x in
     let y' = subst (λ (k : ℕ). Matches (in_turn k angle_slot angle_slot) (map amount_word d.angles)) l.buses y in
-    subst (λ (v : List ℕ). Matches (slots_of (dispatch_runs n m)) v) (sym e) (
+    subst (λ (v : List ℕ). Matches (dispatch_slots n m) v) (sym e) (
       head_fits 2 (omega arith),
       matches_join (in_turn n power_slot power_slot) (in_turn m angle_slot angle_slot ++ (End ∷ [])) (map amount_word d.powers) (map amount_word d.angles ++ (word_of kind.End 0 ∷ [])) x'
           (matches_join (in_turn m angle_slot angle_slot) (End ∷ []) (map amount_word d.angles) (word_of kind.End 0 ∷ []) y' (end_fits, tt)),
@@ -60,7 +60,7 @@ unfolding zeros
 zeros_in P p zero = tt
 zeros_in P p (suc n) = (p, zeros_in P p n)
 
-pub dispatch-some : (n m : ℕ) → (w : List ℕ) × DispatchForm n m w
+dispatch-some : (n m : ℕ) → (w : List ℕ) × DispatchForm n m w
 unfolding zeros
 dispatch-some n m =
     let d : Dispatch = dispatch_of (zeros n) (zeros m) in (
@@ -76,7 +76,10 @@ dispatch-some n m =
       ),
     )
 
-pub words_length : (d : Dispatch) → length (dispatch_words d) ≡ length d.powers + length d.angles + 2
+pub dispatch_layout : (n m : ℕ) → Layout (DispatchForm n m) (dispatch_slots n m)
+dispatch_layout n m = record { to = dispatch-to n m; from = dispatch-from n m; some = dispatch-some n m }
+
+words_length : (d : Dispatch) → length (dispatch_words d) ≡ length d.powers + length d.angles + 2
 words_length d = simp (length-append, length-map) (omega arith)
 
 pub dispatch-long : (n m : ℕ) (w : List ℕ) → DispatchForm n m w → length w ≡ n + m + 2
@@ -111,7 +114,7 @@ reads_back d u =
     record {
       lawful = l;
       same = λ e k h. dispatch-same n m d e l k h;
-      taken = λ r place. (form_exact (DispatchForm n m) (dispatch_runs n m) (dispatch-to n m) (dispatch-from n m)).accepted (dispatch_words d) r place (d, l, refl);
+      taken = λ r place. (form_exact (DispatchForm n m) (dispatch_slots n m) (dispatch_layout n m)).accepted (dispatch_words d) r place (d, l, refl);
     }
 
 -- a list after the head, both tables and the end word are written over it, one after the other

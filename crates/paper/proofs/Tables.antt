@@ -1,14 +1,6 @@
--- The steps of a loop that fills a table from a list, and of one that writes a list over part of another.
+-- The steps of a loop that writes a list over part of another.
 use Rattle.std.proofs.Common.{◌≡◌, ℕ, ◌+◌, ◌-◌, ◌<◌, List, [], ◌∷◌, ◌++◌, map, length, get_or, take, drop, set, sym, ap, ◌∙◌, arith}
-use Rattle.std.proofs.lemmas.List.{take_more_set, map_more, get_or-drop, length-drop, length-take-le, length-map, set-append_right, drop_more, append_assoc, drop-drop, drop_at, take_at, length-append}
-
-pub fill_step : {X Y : Type 0} (f : X → Y) (xs : List X) (table : List Y) (from i : ℕ) (d : X) (z : Y) → take i table ≡ map f (take i (drop from xs)) → i < length table → from + i < length xs → z ≡ f (get_or xs (from + i) d) → take (i + 1) (set table i z) ≡ map f (take (i + 1) (drop from xs))
-fill_step f xs table from i d z e h k v =
-    let a = take_more_set table i z h in
-    let b = map_more f (drop from xs) i d (omega (arith, length-drop from xs)) in
-    let g = get_or-drop from xs i d in
-    let w : f (get_or (drop from xs) i d) ≡ z = ap f g ∙ sym v in
-    cc
+use Rattle.std.proofs.lemmas.List.{map_more, length-take-le, length-map, set-append_right, drop_more, append_assoc, drop-drop, drop_at, take_at, length-append}
 
 pub write_step : {X Y : Type 0} (f : X → Y) (xs : List X) (list now : List Y) (from i : ℕ) (d : X) (e : Y) (z : Y) → now ≡ take from list ++ (map f (take i xs) ++ drop (from + i) list) → i < length xs → from + i < length list → z ≡ f (get_or xs i d) → set now (from + i) z ≡ take from list ++ (map f (take (i + 1) xs) ++ drop (from + (i + 1)) list)
 write_step f xs list now from i d e z n h k v =

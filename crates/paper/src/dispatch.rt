@@ -3,6 +3,7 @@ ghost use Rattle.std.specs.Prelude.{◌≡◌, MatchResult};
 ghost use Rattle.word.specs.Fault.{RefusedWord};
 ghost use Rattle.paper.specs.Dispatch.{DispatchForm, ReadsDispatch};
 
+use crate::columns::consecutive;
 use crate::range::{ANGLE, POWER};
 use word::column::WordColumn;
 use word::fault::WordFault;
@@ -35,17 +36,7 @@ pub fn read_dispatch<'a>(
         ],
     )?;
     Ok(DispatchPaper {
-        powers: WordColumn {
-            words,
-            start: 1,
-            count: powers,
-            stride: 1,
-        },
-        angles: WordColumn {
-            words,
-            start: 1 + powers,
-            count: angles,
-            stride: 1,
-        },
+        powers: consecutive(words, 1, powers),
+        angles: consecutive(words, 1 + powers, angles),
     })
 }

@@ -3,6 +3,7 @@ ghost use Rattle.std.specs.Prelude.{◌≡◌, ◌≤◌, MatchResult};
 ghost use Rattle.word.specs.Fault.{RefusedWord};
 ghost use Rattle.paper.specs.Prices.{branch_run, ColumnsFrom, PricesForm, ReadsPrices};
 
+use crate::columns::{consecutive, every_second};
 use crate::range::{ANGLE_PRICE, PRICE};
 use word::column::WordColumn;
 use word::fault::WordFault;
@@ -25,7 +26,7 @@ pub fn branch_run(branches: u8) -> Run
     ensures { result ≡ branch_run branches }
 {
     Run {
-        count: 2 * branches as usize,
+        count: 2 * usize::from(branches),
         slot: PRICE,
         other: ANGLE_PRICE,
     }
@@ -36,26 +37,11 @@ pub fn price_columns<'a>(words: &'a [u32], start: usize, buses: u8, branches: u8
     requires { start ≤ 2 }
     ensures { ColumnsFrom start buses branches words.now result }
 {
-    let after = start + buses as usize;
+    let after = start + usize::from(buses);
     PricesPaper {
-        prices: WordColumn {
-            words,
-            start,
-            count: buses as usize,
-            stride: 1,
-        },
-        congestion_prices: WordColumn {
-            words,
-            start: after,
-            count: branches as usize,
-            stride: 2,
-        },
-        angle_prices: WordColumn {
-            words,
-            start: after + 1,
-            count: branches as usize,
-            stride: 2,
-        },
+        prices: consecutive(words, start, usize::from(buses)),
+        congestion_prices: every_second(words, after, usize::from(branches)),
+        angle_prices: every_second(words, after + 1, usize::from(branches)),
     }
 }
 
@@ -71,7 +57,7 @@ pub fn read_prices<'a>(
         words,
         &[
             Run::one(Slot::Head(3)),
-            Run::many(buses as usize, PRICE),
+            Run::many(usize::from(buses), PRICE),
             branch_run(branches),
             Run::one(Slot::End),
         ],

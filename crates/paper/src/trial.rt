@@ -32,7 +32,7 @@ pub fn read_trial<'a>(
         &[
             Run::one(Slot::Head(6)),
             Run::one(Slot::Branch),
-            Run::many(buses as usize, PRICE),
+            Run::many(usize::from(buses), PRICE),
             branch_run(branches),
             Run::one(Slot::End),
         ],

@@ -8,14 +8,15 @@ use Rattle.word.specs.Word.{amount_of, word_of, amount_word}
 use Rattle.word.specs.Laws.{Short}
 use Rattle.word.specs.Slot.{Matches}
 use Rattle.word.specs.Run.{in_turn}
-use Rattle.word.specs.Column.{column_value}
+use Rattle.word.specs.Column.{column_value, value_of}
 use Rattle.word.specs.declared.kind.Kind.TheVariants as kind
 use Rattle.word.specs.declared.slot.Slot.{Slot}
 use Rattle.word.specs.declared.slot.Slot.TheVariants.{Head, End}
 use Rattle.word.proofs.Fillings.{head_word, head_fits, end_fits, last_word, run_words, words_run, column_run}
 use Rattle.word.proofs.Slots.{matches_join, matches_parts}
 use Rattle.paper.specs.Range.{Power, Angle, power_slot, angle_slot}
-use Rattle.paper.specs.Dispatch.{Dispatch, dispatch_words, InUnits, LawfulDispatch, DispatchForm}
+use Rattle.paper.specs.Dispatch.{Dispatch, dispatch_words, InUnits, LawfulDispatch, DispatchForm, ReadsDispatch}
+use Rattle.paper.specs.declared.dispatch.DispatchPaper.{DispatchPaper}
 use Rattle.paper.specs.Write.{dispatch_of, ReadsBack}
 use Rattle.paper.proofs.Layouts.{Layout, power_short, angle-short, form_exact}
 use Rattle.paper.proofs.Tables.{Begun, begun-run, begun-one}
@@ -82,21 +83,37 @@ dispatch_layout n m = record { to = dispatch-to n m; from = dispatch-from n m; s
 words_length : (d : Dispatch) → length (dispatch_words d) ≡ length d.powers + length d.angles + 2
 words_length d = simp (length-append, length-map) (omega arith)
 
-pub dispatch-long : (n m : ℕ) (w : List ℕ) → DispatchForm n m w → length w ≡ n + m + 2
-dispatch-long n m w (d, l, e) = let a = l.machines in let b = l.buses in let k = words_length d in ap length e ∙ (omega arith)
+pub dispatch-long : (n m : ℕ) (w : List ℕ) → Matches (dispatch_slots n m) w → length w ≡ n + m + 2
+dispatch-long n m w s =
+    let d = dispatch-to n m w s in
+    let a = d.1.machines in
+    let b = d.1.buses in
+    let k = words_length d.0 in
+    ap length d.2 ∙ (omega arith)
 
 -- the numbers at the places of each run are those of the dispatch
 module _ (n m : ℕ) (w : List ℕ) (d : Dispatch) (l : LawfulDispatch n m d) (e : w ≡ dispatch_words d) where
-  pub powers_at : (i : ℕ) → column_value w 1 n 1 i ≡ get_or d.powers i (pos 0)
+  powers_at : (i : ℕ) → column_value w 1 n 1 i ≡ get_or d.powers i (pos 0)
   powers_at i =
       column_run w (word_of kind.Head 2 ∷ []) d.powers (map amount_word d.angles ++ (word_of kind.End 0 ∷ [])) 1 n i e refl l.machines
       (All-weaker Power Short power_short d.powers l.units.powers)
 
-  pub angles_at : (i : ℕ) → column_value w (1 + n) m 1 i ≡ get_or d.angles i (pos 0)
+  angles_at : (i : ℕ) → column_value w (1 + n) m 1 i ≡ get_or d.angles i (pos 0)
   angles_at i =
       let k : length (map amount_word d.powers) ≡ n = length-map d.powers amount_word ∙ l.machines in
       column_run w (word_of kind.Head 2 ∷ map amount_word d.powers) d.angles (word_of kind.End 0 ∷ []) (1 + n) m i e (omega arith) l.buses
       (All-weaker Angle Short angle-short d.angles l.units.angles)
+
+pub reads_dispatch : (n m : ℕ) (w : List ℕ) (p : DispatchPaper) → Matches (dispatch_slots n m) w → ((i : ℕ) → value_of p.powers i ≡ column_value w 1 n 1 i) → ((i : ℕ) → value_of p.angles i ≡ column_value w (1 + n) m 1 i) → ReadsDispatch n m w p
+reads_dispatch n m w p s f g =
+    let d = dispatch-to n m w s in
+    record {
+      dispatch = d.0;
+      lawful = d.1;
+      words = d.2;
+      powers = λ i. f i ∙ powers_at n m w d.0 d.1 d.2 i;
+      angles = λ i. g i ∙ angles_at n m w d.0 d.1 d.2 i;
+    }
 
 -- two dispatches of the same counts with the same words are the same
 pub dispatch-same : (n m : ℕ) (d e : Dispatch) → LawfulDispatch n m d → LawfulDispatch n m e → dispatch_words e ≡ dispatch_words d → e ≡ d

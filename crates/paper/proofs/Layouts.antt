@@ -1,24 +1,16 @@
 -- The places of a paper of fixed length say what its form says.
-use Rattle.std.proofs.Common.{◌≡◌, ℕ, List, ◌∷◌, ◌++◌, ℤ, sym, subst, arith}
+use Rattle.std.proofs.Common.{ℕ, List, ◌∷◌, ◌++◌, ℤ, arith}
 use Rattle.std.proofs.lemmas.Int.{ints}
 use Rattle.word.specs.Form.{Form, Exact}
 use Rattle.word.specs.Fault.{RefusedWord}
 use Rattle.word.specs.Laws.{Short}
 use Rattle.word.specs.Slot.{Matches, Possible}
-use Rattle.word.specs.Run.{slots_of}
 use Rattle.word.specs.declared.fault.WordFault.{WordFault}
-use Rattle.word.specs.declared.run.Run.{Run}
 use Rattle.word.specs.declared.slot.Slot.{Slot}
 use Rattle.word.proofs.Forms.{refused_like}
 use Rattle.word.proofs.Slots.{slots_ended}
 use Rattle.word.proofs.Exacts.{exact}
 use Rattle.paper.specs.Range.{Power, Angle, Priced, AnglePriced}
-
-abbrev pub one : Slot → Run
-one s = record { count = 1; slot = s; other = s }
-
-abbrev pub many : ℕ → Slot → Run
-many n s = record { count = n; slot = s; other = s }
 
 -- the places of a form: words fit them where they have the form, and some words do
 pub record Layout (F : Form) (ss : List Slot) : Type 0 where
@@ -29,9 +21,6 @@ pub record Layout (F : Form) (ss : List Slot) : Type 0 where
 module _ (F : Form) (ss : List Slot) (l : Layout F ss) where
   pub possible : Possible ss
   possible = let s = l.some in (s.0, l.from s.0 s.1)
-
-  pub possible_runs : (rs : List Run) → slots_of rs ≡ ss → Possible (slots_of rs)
-  possible_runs rs e = subst Possible (sym e) possible
 
   pub refused : (w : List ℕ) (f : WordFault) → RefusedWord (Matches ss) w f → RefusedWord F w f
   refused w f r = (refused_like (Matches ss) F l.to l.from w f.refusal f.place r.0, r.1)

@@ -1,10 +1,7 @@
-use Rattle.std.proofs.Common.{[], ◌∷◌, refl, rules}
+use Rattle.std.proofs.Common.{rules}
 use Rattle.std.proofs.lemmas.Result.{err_from_is_err_and}
-use Rattle.word.specs.Word.{word_of}
-use Rattle.word.specs.Slot.{Matches}
-use Rattle.word.specs.declared.kind.Kind.TheVariants as kind
 use Rattle.paper.proofs.Layouts.{possible, refused}
-use Rattle.paper.proofs.Lists.{prices_slots, prices_layout, list_gives}
+use Rattle.paper.proofs.Lists.{prices_layout, reads_prices}
 use Rattle.paper.proofs.prices.read_prices.Goals as goal
 
 pub admit_all-requires : goal.admit_all-requires
@@ -17,14 +14,4 @@ returns-in_err-admit_all c =
 
 pub returns : goal.returns
 returns c =
-    let n = c.args.buses in
-    let m = c.args.branches in
-    let w = c.args.words.now in
-    let f : Matches (prices_slots n m) w = search rules in
-    let l = (prices_layout n m).to w f in
-    record {
-      list = l.0;
-      lawful = l.1;
-      words = l.2;
-      gives = list_gives n m 1 w (word_of kind.Head 3 ∷ []) l.0 c.price_columns.result l.1 l.2 refl c.price_columns.ensures;
-    }
+    reads_prices c.args.buses c.args.branches c.args.words.now _ (search rules) c.price_columns.ensures

@@ -1,5 +1,5 @@
 -- The places of a dispatch say what its words say; and a dispatch written out.
-use Rattle.std.proofs.Common.{◌≡◌, ℕ, zero, suc, ◌+◌, ◌≤◌, List, [], ◌∷◌, ◌++◌, map, length, get_or, take, drop, set, replicate, ℤ, pos, negsuc, sym, refl, ap, ◌∙◌, subst, arith}
+use Rattle.std.proofs.Common.{◌≡◌, ℕ, zero, suc, ◌+◌, ◌≤◌, List, [], ◌∷◌, ◌++◌, map, length, get_or, take, drop, set, replicate, ℤ, pos, negsuc, sym, refl, ap, ◌∙◌, subst, add-one, ◌<◌, arith}
 use Rattle.std.specs.List.{AllByRecursion}
 use Rattle.std.proofs.lemmas.List.{length-append, length-map, length-replicate, append_assoc, ext_get_or}
 use Rattle.std.proofs.ByRecursion.{All-weaker}
@@ -19,7 +19,9 @@ use Rattle.paper.specs.Dispatch.{Dispatch, dispatch_words, InUnits, LawfulDispat
 use Rattle.paper.specs.declared.dispatch.DispatchPaper.{DispatchPaper}
 use Rattle.paper.specs.Write.{dispatch_of, ReadsBack}
 use Rattle.paper.proofs.Layouts.{Layout, power_short, angle-short, form_exact}
-use Rattle.paper.proofs.Tables.{Begun, begun-run, begun-one}
+use Rattle.std.proofs.lemmas.List.{set_split}
+use Rattle.std.proofs.Math.Seq.{paste}
+use Rattle.std.proofs.lemmas.List.Edits.{length-paste, paste_all, paste-paste}
 
 abbrev pub dispatch_slots : ℕ → ℕ → List Slot
 dispatch_slots n m = Head 2 ∷ (in_turn n power_slot power_slot ++ (in_turn m angle_slot angle_slot ++ (End ∷ [])))
@@ -134,23 +136,36 @@ reads_back d u =
       taken = λ r place. (form_exact (DispatchForm n m) (dispatch_slots n m) (dispatch_layout n m)).accepted (dispatch_words d) r place (d, l, refl);
     }
 
+set_paste : (l : List ℕ) (k x : ℕ) → k < length l → set l k x ≡ paste l k (x ∷ []) 1
+set_paste l k x h =
+    let s : set l k x ≡ take k l ++ (x ∷ drop (k + 1) l) = rw add-one (set_split l k x h) in
+    s ∙ sym (paste_all l k (x ∷ []) 1 refl)
+
+-- one part after the other, from the first place on
+then_paste : (l s t : List ℕ) (n m : ℕ) → n ≡ length s → m ≡ length t → paste (paste l 0 s n) n t m ≡ paste l 0 (s ++ t) (n + m)
+then_paste l s t n m e f =
+    let z : 0 + n ≡ n = omega arith in
+    subst (λ (k : ℕ). paste (paste l 0 s n) k t m ≡ paste l 0 (s ++ t) (n + m)) z (paste-paste l 0 s t n m e f (omega arith))
+
 -- a list after the head, both tables and the end word are written over it, one after the other
 pub written : (f t : List ℤ) (l₀ l₁ l₂ : List ℕ) (h e : ℕ) → length f + length t + 2 ≤ length l₀ → h ≡ word_of kind.Head 2 → e ≡ word_of kind.End 0 → l₁ ≡ take 1 (set l₀ 0 h) ++ (map amount_word f ++ drop (1 + length f) (set l₀ 0 h)) → l₂ ≡ take (1 + length f) l₁ ++ (map amount_word t ++ drop ((1 + length f) + length t) l₁) → set l₂ ((1 + length f) + length t) e ≡ dispatch_words (dispatch_of f t) ++ drop (((1 + length f) + length t) + 1) l₀
 written f t l₀ l₁ l₂ h e room eh ee e₁ e₂ =
+    let n : ℕ = length f in
+    let m : ℕ = length t in
     let A : List ℕ = map amount_word f in
     let C : List ℕ = map amount_word t in
-    let la : length A ≡ length f = length-map f amount_word in
-    let lc : length C ≡ length t = length-map t amount_word in
-    let p₁ : List ℕ = (h ∷ []) ++ A in
-    let p₂ : List ℕ = p₁ ++ C in
-    let n₁ : length p₁ ≡ 1 + length f = omega arith in
-    let n₂ : length p₂ ≡ (1 + length f) + length t = omega (arith, length-append p₁ C) in
-    let b₀ : Begun (set l₀ 0 h) (h ∷ []) l₀ = begun-one l₀ [] l₀ h 0 refl refl (omega arith) in
-    let b₁ = begun-run (set l₀ 0 h) l₁ (h ∷ []) A l₀ 1 (length f) refl la b₀ e₁ in
-    let b₂ = begun-run l₁ l₂ p₁ C l₀ (1 + length f) (length t) n₁ lc b₁ e₂ in
-    let b₃ = begun-one l₂ p₂ l₀ e ((1 + length f) + length t) n₂ b₂ (omega arith) in
-    let n₃ : length (p₂ ++ (e ∷ [])) ≡ ((1 + length f) + length t) + 1 = omega (arith, length-append p₂ (e ∷ [])) in
-    let q : p₂ ++ (e ∷ []) ≡ h ∷ (A ++ (C ++ (e ∷ []))) = simp append_assoc in
-    let r : h ∷ (A ++ (C ++ (e ∷ []))) ≡ dispatch_words (dispatch_of f t) =
-    ap (λ (x : ℕ). x ∷ (A ++ (C ++ (e ∷ [])))) eh ∙ ap (λ (x : ℕ). word_of kind.Head 2 ∷ (A ++ (C ++ (x ∷ [])))) ee in
-    b₃ ∙ ap (λ (x : List ℕ). x ++ drop (length (p₂ ++ (e ∷ []))) l₀) (q ∙ r) ∙ ap (λ (k : ℕ). dispatch_words (dispatch_of f t) ++ drop k l₀) n₃
+    let la : n ≡ length A = sym (length-map f amount_word) in
+    let lc : m ≡ length C = sym (length-map t amount_word) in
+    let lac : (1 + n) + m ≡ length (h ∷ (A ++ C)) = omega (arith, length-append A C) in
+    let a₀ : set l₀ 0 h ≡ paste l₀ 0 (h ∷ []) 1 = set_paste l₀ 0 h (omega arith) in
+    let a₁ : l₁ ≡ paste l₀ 0 (h ∷ A) (1 + n) =
+    e₁ ∙ sym (paste_all (set l₀ 0 h) 1 A n la) ∙ ap (λ (l : List ℕ). paste l 1 A n) a₀ ∙ then_paste l₀ (h ∷ []) A 1 n refl la in
+    let a₂ : l₂ ≡ paste l₀ 0 (h ∷ (A ++ C)) ((1 + n) + m) =
+    e₂ ∙ sym (paste_all l₁ (1 + n) C m lc) ∙ ap (λ (l : List ℕ). paste l (1 + n) C m) a₁ ∙ then_paste l₀ (h ∷ A) C (1 + n) m (omega arith) lc in
+    let k₂ : length l₂ ≡ length l₀ = ap length a₂ ∙ length-paste l₀ 0 (h ∷ (A ++ C)) ((1 + n) + m) (omega arith) (omega arith) in
+    let a₃ : set l₂ ((1 + n) + m) e ≡ paste l₀ 0 (h ∷ ((A ++ C) ++ (e ∷ []))) (((1 + n) + m) + 1) =
+    set_paste l₂ ((1 + n) + m) e (omega arith) ∙ ap (λ (l : List ℕ). paste l ((1 + n) + m) (e ∷ []) 1) a₂ ∙ then_paste l₀ (h ∷ (A ++ C)) (e ∷ []) ((1 + n) + m) 1 lac refl in
+    let w : h ∷ ((A ++ C) ++ (e ∷ [])) ≡ dispatch_words (dispatch_of f t) = λ i. eh i ∷ (append_assoc A C (e ∷ []) ∙ (λ j. A ++ (C ++ (ee j ∷ [])))) i in
+    let k : ((1 + n) + m) + 1 ≡ length (h ∷ ((A ++ C) ++ (e ∷ []))) = omega (arith, length-append (A ++ C) (e ∷ [])) in
+    let z : 0 + (((1 + n) + m) + 1) ≡ ((1 + n) + m) + 1 = omega arith in
+    a₃ ∙ paste_all l₀ 0 (h ∷ ((A ++ C) ++ (e ∷ []))) (((1 + n) + m) + 1) k ∙ (λ i. w i ++ drop (z i) l₀)

@@ -1,11 +1,12 @@
 -- The places of a dispatch say what its words say; and a dispatch written out.
-use Rattle.std.proofs.Common.{◌≡◌, ℕ, zero, suc, ◌+◌, ◌≤◌, List, [], ◌∷◌, ◌++◌, map, length, get_or, take, drop, set, replicate, ℤ, pos, negsuc, sym, refl, ap, ◌∙◌, subst, add-one, ◌<◌, arith}
-use Rattle.std.specs.List.{AllByRecursion}
+use Rattle.std.proofs.Common.{◌≡◌, ℕ, ◌+◌, ◌≤◌, List, [], ◌∷◌, ◌++◌, map, length, get_or, take, drop, set, replicate, ℤ, pos, negsuc, sym, refl, ap, ◌∙◌, subst, add-one, ◌<◌, arith}
 use Rattle.std.proofs.lemmas.List.{length-append, length-map, length-replicate, append_assoc, ext_get_or}
 use Rattle.std.proofs.ByRecursion.{All-weaker}
 use Rattle.std.proofs.lemmas.Int.{ints}
 use Rattle.word.specs.Word.{amount_of, word_of, amount_word}
 use Rattle.word.specs.Laws.{Short}
+use Rattle.word.specs.Fault.{RefusedWord}
+use Rattle.word.specs.declared.fault.WordFault.{WordFault}
 use Rattle.word.specs.Slot.{Matches}
 use Rattle.word.specs.Run.{in_turn}
 use Rattle.word.specs.Column.{column_value, value_of}
@@ -18,7 +19,7 @@ use Rattle.paper.specs.Range.{Power, Angle, power_slot, angle_slot}
 use Rattle.paper.specs.Dispatch.{Dispatch, dispatch_words, InUnits, LawfulDispatch, DispatchForm, ReadsDispatch}
 use Rattle.paper.specs.declared.dispatch.DispatchPaper.{DispatchPaper}
 use Rattle.paper.specs.Write.{dispatch_of, ReadsBack}
-use Rattle.paper.proofs.Layouts.{Layout, power_short, angle-short, form_exact}
+use Rattle.paper.proofs.Layouts.{Layout, refused, all_same, power_short, angle-short, form_exact}
 use Rattle.std.proofs.lemmas.List.{set_split}
 use Rattle.std.proofs.Math.Seq.{paste}
 use Rattle.std.proofs.lemmas.List.Edits.{length-paste, paste_all, paste-paste}
@@ -55,25 +56,19 @@ dispatch-from n m w (d, l, e) =
           (matches_join (in_turn m angle_slot angle_slot) (End ∷ []) (map amount_word d.angles) (word_of kind.End 0 ∷ []) y' (end_fits, tt)),
     )
 
-zeros : ℕ → List ℤ
-zeros n = replicate n (pos 0)
-
-zeros_in : (P : ℤ → Type 0) → P (pos 0) → (n : ℕ) → AllByRecursion P (zeros n)
-unfolding zeros
-zeros_in P p zero = tt
-zeros_in P p (suc n) = (p, zeros_in P p n)
-
 dispatch-some : (n m : ℕ) → (w : List ℕ) × DispatchForm n m w
-unfolding zeros
 dispatch-some n m =
-    let d : Dispatch = dispatch_of (zeros n) (zeros m) in (
+    let d : Dispatch = dispatch_of (replicate n (pos 0)) (replicate m (pos 0)) in (
       dispatch_words d,
       (
         d,
         record {
           machines = length-replicate n (pos 0);
           buses = length-replicate m (pos 0);
-          units = record { powers = zeros_in Power (omega (arith, ints), omega (arith, ints)) n; angles = zeros_in Angle (omega (arith, ints), omega (arith, ints)) m };
+          units = record {
+            powers = all_same Power (pos 0) (omega (arith, ints), omega (arith, ints)) n;
+            angles = all_same Angle (pos 0) (omega (arith, ints), omega (arith, ints)) m;
+          };
         },
         refl,
       ),
@@ -85,8 +80,8 @@ dispatch_layout n m = record { to = dispatch-to n m; from = dispatch-from n m; s
 words_length : (d : Dispatch) → length (dispatch_words d) ≡ length d.powers + length d.angles + 2
 words_length d = simp (length-append, length-map) (omega arith)
 
-pub dispatch-long : (n m : ℕ) (w : List ℕ) → Matches (dispatch_slots n m) w → length w ≡ n + m + 2
-dispatch-long n m w s =
+pub dispatch_long : (n m : ℕ) (w : List ℕ) → Matches (dispatch_slots n m) w → length w ≡ n + m + 2
+dispatch_long n m w s =
     let d = dispatch-to n m w s in
     let a = d.1.machines in
     let b = d.1.buses in
@@ -169,3 +164,6 @@ written f t l₀ l₁ l₂ h e room eh ee e₁ e₂ =
     let k : ((1 + n) + m) + 1 ≡ length (h ∷ ((A ++ C) ++ (e ∷ []))) = omega (arith, length-append (A ++ C) (e ∷ [])) in
     let z : 0 + (((1 + n) + m) + 1) ≡ ((1 + n) + m) + 1 = omega arith in
     a₃ ∙ paste_all l₀ 0 (h ∷ ((A ++ C) ++ (e ∷ []))) (((1 + n) + m) + 1) k ∙ (λ i. w i ++ drop (z i) l₀)
+
+pub dispatch_refused : (n m : ℕ) (w : List ℕ) (f : WordFault) → RefusedWord (Matches (dispatch_slots n m)) w f → RefusedWord (DispatchForm n m) w f
+dispatch_refused n m w f r = refused _ _ (dispatch_layout n m) w f r

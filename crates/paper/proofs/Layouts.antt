@@ -1,6 +1,7 @@
 -- The places of a paper of fixed length say what its form says.
-use Rattle.std.proofs.Common.{ℕ, List, ◌∷◌, ◌++◌, ℤ, arith}
+use Rattle.std.proofs.Common.{ℕ, zero, suc, List, ◌∷◌, ◌++◌, replicate, ℤ, arith}
 use Rattle.std.proofs.lemmas.Int.{ints}
+use Rattle.std.specs.List.{AllByRecursion}
 use Rattle.word.specs.Form.{Form, Exact}
 use Rattle.word.specs.Fault.{RefusedWord}
 use Rattle.word.specs.Laws.{Short}
@@ -39,3 +40,8 @@ price-short z h = (omega (arith, ints), omega (arith, ints))
 
 pub angle-price_short : (z : ℤ) → AnglePriced z → Short z
 angle-price_short z h = (omega (arith, ints), omega (arith, ints))
+
+-- a list of one element throughout
+pub all_same : {X : Type 0} (P : X → Type 0) (x : X) → P x → (n : ℕ) → AllByRecursion P (replicate n x)
+all_same P x p zero = tt
+all_same P x p (suc n) = (p, all_same P x p n)

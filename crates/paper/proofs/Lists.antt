@@ -7,6 +7,8 @@ use Rattle.std.proofs.lemmas.Bool.{cases_lt}
 use Rattle.std.proofs.lemmas.Int.{ints}
 use Rattle.word.specs.Word.{amount_of, word_of, amount_word}
 use Rattle.word.specs.Laws.{Short}
+use Rattle.word.specs.Fault.{RefusedWord}
+use Rattle.word.specs.declared.fault.WordFault.{WordFault}
 use Rattle.word.specs.Slot.{Matches}
 use Rattle.word.specs.Run.{in_turn}
 use Rattle.word.specs.Column.{column_value}
@@ -23,7 +25,7 @@ use Rattle.paper.specs.Name.{branch_word, branch_of, Named}
 use Rattle.paper.specs.Prices.{BranchPrices, Prices, pair_words, list_words, prices_words, PairPriced, LawfulPrices, PricesForm, GivesPrices, ReadsPrices, ColumnsFrom}
 use Rattle.paper.specs.Trial.{trial_words, TrialForm, ReadsTrial}
 use Rattle.paper.specs.declared.prices.PricesPaper.{PricesPaper}
-use Rattle.paper.proofs.Layouts.{Layout, price-short, angle-price_short}
+use Rattle.paper.proofs.Layouts.{Layout, refused, all_same, price-short, angle-price_short}
 use Rattle.paper.proofs.Names.{branch_word-branch_of, branch_named, branch_fits}
 
 -- words in turn are those of pairs
@@ -156,13 +158,8 @@ prices-from n m w (l, h, e) =
     subst (λ (v : List ℕ). Matches (prices_slots n m) v) (sym e) (head_fits 3 (omega arith), list_from n m l h)
 
 -- a list with no price but 0
-
 free : ℕ → ℕ → Prices
 free n m = record { buses = replicate n (pos 0); branches = replicate m (record { congestion = pos 0; angle = pos 0 }) }
-
-all_same : {X : Type 0} (P : X → Type 0) (x : X) → P x → (n : ℕ) → AllByRecursion P (replicate n x)
-all_same P x p zero = tt
-all_same P x p (suc n) = (p, all_same P x p n)
 
 free-lawful : (n m : ℕ) → (l : Prices) × LawfulPrices n m l
 unfolding free
@@ -226,3 +223,9 @@ reads_trial n m w p s c =
       words = t.3;
       gives = list_gives n m 2 w (word_of kind.Head 6 ∷ branch_word (branch_of (get_or w 1 0)) ∷ []) t.0 p t.2 t.3 refl c;
     }
+
+pub prices_refused : (n m : ℕ) (w : List ℕ) (f : WordFault) → RefusedWord (Matches (prices_slots n m)) w f → RefusedWord (PricesForm n m) w f
+prices_refused n m w f r = refused _ _ (prices_layout n m) w f r
+
+pub trial_refused : (n m : ℕ) (w : List ℕ) (f : WordFault) → RefusedWord (Matches (trial_slots n m)) w f → RefusedWord (TrialForm n m) w f
+trial_refused n m w f r = refused _ _ (trial_layout n m) w f r

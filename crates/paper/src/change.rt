@@ -47,6 +47,7 @@ fn admit_change(words: &[u32], head: u32, name: Slot, amount: Slot) -> Result<(u
     Ok((*name, *amount))
 }
 
+#[tactic(auto, using(crate::proofs::Layouts::possible, crate::proofs::Layouts::refused, crate::proofs::Changes::demand_layout))]
 pub fn read_demand_change(words: &[u32]) -> Result<DemandChange, WordFault>
     ensures { MatchResult result (λ v. LawfulDemand v × (words.now ≡ demand_words v)) (λ f. RefusedWord DemandForm words.now f) }
 {
@@ -57,6 +58,7 @@ pub fn read_demand_change(words: &[u32]) -> Result<DemandChange, WordFault>
     })
 }
 
+#[tactic(auto, using(crate::proofs::Layouts::possible, crate::proofs::Layouts::refused, crate::proofs::Changes::mark_layout))]
 pub fn read_mark_change(words: &[u32]) -> Result<MarkChange, WordFault>
     ensures { MatchResult result (λ v. LawfulMark v × (words.now ≡ mark_words v)) (λ f. RefusedWord MarkForm words.now f) }
 {

@@ -19,6 +19,7 @@ pub struct DispatchPaper<'a> {
 }
 
 // Reads a dispatch of so many powers and angles.
+#[tactic(auto, using(crate::proofs::Dispatches::dispatch_refused, crate::proofs::Dispatches::dispatch_long, crate::proofs::Dispatches::reads_dispatch))]
 pub fn read_dispatch<'a>(
     words: &'a [u32],
     powers: usize,

@@ -32,7 +32,7 @@ pub fn branch_run(branches: u8) -> Run
     }
 }
 
-// The columns of a price list that stands from a place on.
+// The columns of a price list that stands from a place on; the two counts apart, as its readers are given them.
 pub fn price_columns<'a>(words: &'a [u32], start: usize, buses: u8, branches: u8) -> PricesPaper<'a>
     requires { start ≤ 2 }
     ensures { ColumnsFrom start buses branches words.now result }
@@ -46,6 +46,7 @@ pub fn price_columns<'a>(words: &'a [u32], start: usize, buses: u8, branches: u8
 }
 
 // Reads a price list for so many buses and branches.
+#[tactic(auto, using(crate::proofs::Lists::prices_refused, crate::proofs::Lists::reads_prices))]
 pub fn read_prices<'a>(
     words: &'a [u32],
     buses: u8,

@@ -20,6 +20,7 @@ pub struct TrialPaper<'a> {
 }
 
 // Reads a trial with a list for so many buses and branches.
+#[tactic(auto, using(crate::proofs::Lists::trial_refused, crate::proofs::Lists::reads_trial))]
 pub fn read_trial<'a>(
     words: &'a [u32],
     buses: u8,

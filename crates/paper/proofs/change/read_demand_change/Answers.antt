@@ -1,17 +1,11 @@
 use Rattle.std.proofs.Common.{◌∙◌, w64, rules}
 use Rattle.std.proofs.lemmas.Int.{to_z-of_z}
-use Rattle.std.proofs.lemmas.Result.{err_from_is_err_and}
-use Rattle.paper.proofs.Layouts.{possible, refused}
+use Rattle.paper.proofs.Layouts.{possible}
 use Rattle.paper.proofs.Changes.{demand_layout, demand_read}
 use Rattle.paper.proofs.change.read_demand_change.Goals as goal
 
 pub admit_change-requires : goal.admit_change-requires
 admit_change-requires c = possible _ _ demand_layout
-
-pub returns-in_err-bus : goal.returns-in_err-bus
-returns-in_err-bus c =
-    let p = err_from_is_err_and c.from_residual.result c.from_residual.ensures.1 in
-    rw (p.1, p.2) (refused _ _ demand_layout _ _ c.in_err-bus.ensures)
 
 pub returns : goal.returns
 returns c =

@@ -1,19 +1,13 @@
 use Rattle.std.proofs.Common.{eqb, sym, ap, ◌∙◌, w64, SFits, to_z, of_z, rules}
 use Rattle.std.proofs.lemmas.Int.{to_z-of_z}
 use Rattle.std.proofs.lemmas.Bool.{eqb-true, eq-eqb}
-use Rattle.std.proofs.lemmas.Result.{err_from_is_err_and}
-use Rattle.paper.proofs.Layouts.{possible, refused}
+use Rattle.paper.proofs.Layouts.{possible}
 use Rattle.paper.proofs.Names.{branch_named}
 use Rattle.paper.proofs.Changes.{mark_layout, mark_at}
 use Rattle.paper.proofs.change.read_mark_change.Goals as goal
 
 pub admit_change-requires : goal.admit_change-requires
 admit_change-requires c = possible _ _ mark_layout
-
-pub returns-in_err-branch : goal.returns-in_err-branch
-returns-in_err-branch c =
-    let p = err_from_is_err_and c.from_residual.result c.from_residual.ensures.1 in
-    rw (p.1, p.2) (refused _ _ mark_layout _ _ c.in_err-branch.ensures)
 
 pub returns : goal.returns
 returns c =

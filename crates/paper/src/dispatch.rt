@@ -3,7 +3,7 @@ ghost use Rattle.std.specs.Prelude.{◌≡◌, MatchResult};
 ghost use Rattle.word.specs.Fault.{RefusedWord};
 ghost use Rattle.paper.specs.Dispatch.{DispatchForm, ReadsDispatch};
 
-use crate::columns::consecutive;
+use crate::columns::column;
 use crate::range::{ANGLE, POWER};
 use word::column::WordColumn;
 use word::fault::WordFault;
@@ -37,7 +37,7 @@ pub fn read_dispatch<'a>(
         ],
     )?;
     Ok(DispatchPaper {
-        powers: consecutive(words, 1, powers),
-        angles: consecutive(words, 1 + powers, angles),
+        powers: column::<1>(words, 1, powers),
+        angles: column::<1>(words, 1 + powers, angles),
     })
 }

@@ -3,7 +3,7 @@ ghost use Rattle.std.specs.Prelude.{◌≡◌, ◌≤◌, MatchResult};
 ghost use Rattle.word.specs.Fault.{RefusedWord};
 ghost use Rattle.paper.specs.Prices.{branch_run, ColumnsFrom, PricesForm, ReadsPrices};
 
-use crate::columns::{consecutive, every_second};
+use crate::columns::column;
 use crate::range::{ANGLE_PRICE, PRICE};
 use word::column::WordColumn;
 use word::fault::WordFault;
@@ -39,9 +39,9 @@ pub fn price_columns<'a>(words: &'a [u32], start: usize, buses: u8, branches: u8
 {
     let after = start + usize::from(buses);
     PricesPaper {
-        prices: consecutive(words, start, usize::from(buses)),
-        congestion_prices: every_second(words, after, usize::from(branches)),
-        angle_prices: every_second(words, after + 1, usize::from(branches)),
+        prices: column::<1>(words, start, usize::from(buses)),
+        congestion_prices: column::<2>(words, after, usize::from(branches)),
+        angle_prices: column::<2>(words, after + 1, usize::from(branches)),
     }
 }
 

@@ -1,13 +1,15 @@
 -- Sums over tables: term by term, and gathered by row.
-use Rattle.std.proofs.Common.{◌≡◌, ℕ, zero, suc, ◌+◌, ◌*◌, ◌<◌, ◌≤◌, Bool, true, false, T, eqb, Option, Some, None, List, [], ◌∷◌, length, get_or, take, ℤ, pos, ◌+ℤ◌, ◌-ℤ◌, ◌*ℤ◌, neg_ℤ, ◌≤ℤ◌, sym, refl, ap, ◌∙◌, subst, add-zero, mul-le-mul_right, suc-mul, zero-add, zero-mul, add-one, arith, eqb→eq}
+use Rattle.std.proofs.Common.{◌≡◌, ℕ, zero, suc, ◌+◌, ◌*◌, ◌<◌, ◌≤◌, Bool, true, false, T, eqb, Option, Some, None, List, [], ◌∷◌, length, get_or, take, ℤ, pos, ◌+ℤ◌, ◌-ℤ◌, ◌*ℤ◌, neg_ℤ, ◌≤ℤ◌, sym, refl, ap, ◌∙◌, subst, add-zero, mul-le-mul_right, suc-mul, zero-add, zero-mul, add-one, arith, eqb→eq, ◌^◌, w64, to_z, of_z}
 use native.Mathlib.Decide.{dec_lt}
 use native.Mathlib.Nat.{min-le_left}
 use lib.Dec.{eqb_refl}
 use lib.IntN.{*ℤ-zero, +ℤ_idl, +ℤ_idr}
 use Rattle.std.proofs.lemmas.List.{length-take}
+use lib.Signed.{mag}
 use Rattle.measure.specs.Range.{Within}
 use Rattle.measure.specs.Rows.{Row, numbered, rows, total, only, All, Stands, HoldsAt, sum_to, Small, row_or, row_value, IsSumOf, IsFirstOf, Lowest}
 use Rattle.measure.proofs.Laws.{lin, mul_add}
+use Rattle.measure.proofs.Sizes.{gave}
 
 -- ---- what holds of each
 -- x stands in the list
@@ -341,3 +343,13 @@ row_got y f xs i x z h e = row_is y f xs i z h.0 (λ v s. e ∙ ap (λ b. f (rec
 -- what is given at each number is the row's value: the sum is that of f over the rows
 pub row_sum : {X : Type 0} (f : Row X → ℤ) (xs : List X) (gives : ℕ → ℤ → Type 0) (n : ℕ) (z : ℤ) → IsSumOf gives n z → ((i : ℕ) (x : ℤ) → i < n → gives i x → x ≡ row_value f xs i) → z ≡ total f (rows (take n xs))
 row_sum f xs gives n z s h = sum_of-sum_to (row_value f xs) gives n z s h ∙ sum_rows f xs n
+
+-- each is small enough that 255 of them fit
+pub row_small : {X : Type 0} (m : ℕ) (f : Row X → ℤ) (xs : List X) (i : ℕ) (z : ℤ) → m ≤ 36000000000000000 → ((r : Row X) → Within m (f r)) → z ≡ row_value f xs i → Within 36000000000000000 z
+row_small m f xs i z l w e = subst (Within 36000000000000000) (sym e) (rows-small m f xs (suc i) l w i (omega arith))
+
+-- the sum as 64 bits hold it: its size, and that of f over the rows
+pub summed_rows : {X : Type 0} (m : ℕ) (f : Row X → ℤ) (xs : List X) (gives : ℕ → ℤ → Type 0) (n : ℕ) (z : ℤ) → mag z < 2 ^ 63 → n ≤ 255 → ((r : Row X) → Within m (f r)) → IsSumOf gives n z → ((i : ℕ) (x : ℤ) → i < n → gives i x → x ≡ row_value f xs i) → Within (255 * m) (to_z w64 (of_z w64 z)) × (to_z w64 (of_z w64 z) ≡ total f (rows (take n xs)))
+summed_rows m f xs gives n z h few w s each =
+    let e = gave h (row_sum f xs gives n z s each) in
+    (subst (Within (255 * m)) (sym e) (few_within m f xs n few w), e)

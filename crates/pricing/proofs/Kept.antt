@@ -20,14 +20,6 @@ use Rattle.network.proofs.Flows.{price_beyond}
 use Rattle.pricing.specs.Kept.{kept_price, kept_angle_price, kept_weight, kept_residue, kept_prices, share, kept_charge, bus_worth, price_size}
 use Rattle.measure.proofs.Order.{only-within}
 
--- a number passed on in 64 bits
-pub passed : (z : ℤ) → mag z < 2 ^ 63 → to_z w64 (of_z w64 z) ≡ z
-passed z h = to_z-of_z w64 z (record { sfits = h })
-
--- what a call returned, read in 64 bits, is what its clause says
-pub gave : {z y : ℤ} → mag z < 2 ^ 63 → z ≡ y → to_z w64 (of_z w64 z) ≡ y
-gave {z} h e = passed z h ∙ e
-
 -- a number that equals one that fits
 pub fits_as : {a b : ℤ} → a ≡ b → SFits w64 b → SFits w64 a
 fits_as e f = subst (SFits w64) (sym e) f
@@ -220,13 +212,3 @@ module _ {M N : Type 0} (c : Case M N) (q : Prices) where
             let l : length c.buses ≤ i = omega arith in
             ap ∣◌∣ (price_beyond c q i l) ∙ sym (row_past (pos 0) (price_size c q) 0 bs i (omega arith))
       ]
-
--- ---- sums over rows: of what is small at each row, over at most 255 of them
-pub row_small : {X : Type 0} (m : ℕ) (f : Row X → ℤ) (xs : List X) (i : ℕ) (z : ℤ) → m ≤ 36000000000000000 → ((r : Row X) → Within m (f r)) → z ≡ row_value f xs i → Within 36000000000000000 z
-row_small m f xs i z l w e =
-    subst (Within 36000000000000000) (sym e) (rows-small m f xs (suc i) l w i (omega arith))
-
-pub summed_rows : {X : Type 0} (m : ℕ) (f : Row X → ℤ) (xs : List X) (gives : ℕ → ℤ → Type 0) (n : ℕ) (z : ℤ) → mag z < 2 ^ 63 → n ≤ 255 → ((r : Row X) → Within m (f r)) → IsSumOf gives n z → ((i : ℕ) (x : ℤ) → i < n → gives i x → x ≡ row_value f xs i) → Within (255 * m) (to_z w64 (of_z w64 z)) × (to_z w64 (of_z w64 z) ≡ total f (rows (take n xs)))
-summed_rows m f xs gives n z h few w s each =
-    let e = gave h (row_sum f xs gives n z s each) in
-    (subst (Within (255 * m)) (sym e) (few_within m f xs n few w), e)

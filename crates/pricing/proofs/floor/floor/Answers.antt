@@ -3,7 +3,7 @@ use Rattle.measure.specs.Fraction.{whole, ◌≤ᶠ◌}
 use Rattle.network.specs.Model.{true_cost}
 use Rattle.network.specs.View.{case_of}
 use Rattle.pricing.specs.Kept.{prices_of}
-use Rattle.pricing.proofs.Kept.{gave}
+use Rattle.measure.proofs.Sizes.{gave}
 use Rattle.pricing.proofs.Exact.{floor_same}
 use Rattle.network.proofs.Duality.{floor_stands}
 use Rattle.pricing.proofs.floor.floor.Goals as goal

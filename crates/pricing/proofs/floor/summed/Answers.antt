@@ -1,5 +1,5 @@
 use Rattle.std.proofs.lemmas.Int.{to_z-of_z}
-use Rattle.pricing.proofs.Kept.{gave}
+use Rattle.measure.proofs.Sizes.{gave}
 use Rattle.pricing.proofs.Exact.{summed_sizes}
 use Rattle.pricing.proofs.floor.summed.Goals as goal
 

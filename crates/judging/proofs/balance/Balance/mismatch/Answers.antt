@@ -1,6 +1,7 @@
 use Rattle.std.proofs.Common.{◌≡◌, ℤ, ◌+ℤ◌, ◌-ℤ◌, ◌∙◌, arith, w64, SFits}
 use borrow.Author.Differences.{ints}
 use Rattle.std.proofs.lemmas.Int.{to_z-of_z}
+use Rattle.measure.proofs.Sizes.{gave}
 use Rattle.judging.proofs.balance.Balance.mismatch.Goals as goal
 
 pub net-requires : goal.net-requires
@@ -23,9 +24,9 @@ nets a b c d a' b' d' r e p q s = omega (arith, ints)
 pub returns : goal.returns
 returns g c =
     let k = c.args.bus.now.ok in
-    let f = to_z-of_z w64 c.total.result (record { sfits = c.total.type_inv }) ∙ c.total.ensures.exact in
-    let s = to_z-of_z w64 c.total-2.result (record { sfits = c.total-2.type_inv }) ∙ c.total-2.ensures.exact in
-    let o = to_z-of_z w64 c.outflow.result (record { sfits = c.outflow.type_inv }) ∙ c.outflow.ensures.exact in
+    let f = gave c.total.type_inv c.total.ensures.exact in
+    let s = gave c.total-2.type_inv c.total-2.ensures.exact in
+    let o = gave c.outflow.type_inv c.outflow.ensures.exact in
     let h : SFits w64 c.args.bus.now.demand.0 = omega (arith, ints, k.1) in
     let d = to_z-of_z w64 c.args.bus.now.demand.0 h in
     to_z-of_z w64 c.net.result (record { sfits = c.net.type_inv })

@@ -3,6 +3,7 @@ use borrow.Author.Differences.{ints}
 use lib.Signed.{lt_z}
 use Rattle.std.proofs.lemmas.Int.{to_z-of_z}
 use Rattle.measure.specs.Range.{between}
+use Rattle.measure.proofs.Sizes.{gave}
 use Rattle.judging.proofs.flows.Flows.exceeds_rating.Goals as goal
 
 -- a test of two numbers and their opposite, each equal to another
@@ -17,4 +18,4 @@ returns g c =
     let k = c.args.branch.now.rated in
     let h : SFits w64 F = omega (arith, ints, k.0, k.1) in
     let n : to_z w64 (of_z w64 (lib.IntN.◌-ℤ◌ (pos 0) (to_z w64 (of_z w64 F)))) ≡ neg_ℤ F = omega (arith, ints, k.0, k.1) in
-    same_test _ _ _ _ _ _ _ _ (to_z-of_z w64 F h) n (to_z-of_z w64 c.flow.result (record { sfits = c.flow.type_inv }) ∙ c.flow.ensures) c.is_between.ensures
+    same_test _ _ _ _ _ _ _ _ (to_z-of_z w64 F h) n (gave c.flow.type_inv c.flow.ensures) c.is_between.ensures

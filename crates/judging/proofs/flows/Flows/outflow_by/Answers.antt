@@ -4,6 +4,7 @@ use Rattle.std.proofs.lemmas.Int.{to_z-of_z}
 use Rattle.measure.specs.Rows.{only}
 use Rattle.judging.specs.Whole.{angle_of}
 use Rattle.judging.proofs.Whole.{outflow_within}
+use Rattle.measure.proofs.Sizes.{gave}
 use Rattle.judging.proofs.flows.Flows.outflow_by.Goals as goal
 
 pub overflow_sub-result : goal.overflow_sub-result
@@ -11,7 +12,7 @@ overflow_sub-result g c =
     let s = c.args.self.now in
     let b = c.args.branch.now in
     let θ = angle_of s.angles.buses (g.C.Column.value s.angles.given.now) in
-    let f = to_z-of_z w64 c.flow-flow.result (record { sfits = c.flow-flow.type_inv }) ∙ c.flow-flow.ensures in
+    let f = gave c.flow-flow.type_inv c.flow-flow.ensures in
     let l = c.only_if-leaving.ensures ∙ ap₂ (λ n z. only (eqb n c.args.bus) z) c.from.ensures f in
     let a = c.only_if-arriving.ensures ∙ ap₂ (λ n z. only (eqb n c.args.bus) z) c.from-2.ensures f in
     let w = outflow_within s.angles.buses (g.C.Column.value s.angles.given.now) b c.args.bus in
@@ -24,7 +25,7 @@ returns g c =
     let s = c.args.self.now in
     let b = c.args.branch.now in
     let θ = angle_of s.angles.buses (g.C.Column.value s.angles.given.now) in
-    let f = to_z-of_z w64 c.flow-flow.result (record { sfits = c.flow-flow.type_inv }) ∙ c.flow-flow.ensures in
+    let f = gave c.flow-flow.type_inv c.flow-flow.ensures in
     let l = c.only_if-leaving.ensures ∙ ap₂ (λ n z. only (eqb n c.args.bus) z) c.from.ensures f in
     let a = c.only_if-arriving.ensures ∙ ap₂ (λ n z. only (eqb n c.args.bus) z) c.from-2.ensures f in
     let w = outflow_within s.angles.buses (g.C.Column.value s.angles.given.now) b c.args.bus in

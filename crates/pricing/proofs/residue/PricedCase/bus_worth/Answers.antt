@@ -6,7 +6,8 @@ use Rattle.measure.proofs.Sizes.{fits}
 use Rattle.measure.proofs.Sums.{row_got}
 use Rattle.network.specs.View.{case_of}
 use Rattle.pricing.specs.Kept.{prices_of, kept_prices, kept_residue, bus_worth}
-use Rattle.pricing.proofs.Kept.{gave, worth_by}
+use Rattle.measure.proofs.Sizes.{gave}
+use Rattle.pricing.proofs.Kept.{worth_by}
 use Rattle.pricing.proofs.residue.PricedCase.bus_worth.Goals as goal
 
 pub worth-requires : goal.worth-requires

@@ -8,7 +8,8 @@ use Rattle.measure.proofs.Sums.{row_got}
 use Rattle.network.specs.Floor.{angle_charge}
 use Rattle.network.specs.View.{case_of}
 use Rattle.pricing.specs.Kept.{prices_of, kept_weight, kept_prices, kept_charge}
-use Rattle.pricing.proofs.Kept.{gave, shift_fits, rating_fits, stretched_by, charged_by}
+use Rattle.measure.proofs.Sizes.{gave}
+use Rattle.pricing.proofs.Kept.{shift_fits, rating_fits, stretched_by, charged_by}
 use Rattle.pricing.proofs.residue.PricedCase.charge.Goals as goal
 
 -- what an angle price charges between two limits

@@ -3,7 +3,7 @@ use Rattle.measure.specs.Range.{between}
 use Rattle.measure.proofs.Sums.{row_got}
 use Rattle.network.specs.View.{case_of}
 use Rattle.pricing.specs.Kept.{prices_of, kept_prices, overweight}
-use Rattle.pricing.proofs.Kept.{gave}
+use Rattle.measure.proofs.Sizes.{gave}
 use Rattle.pricing.proofs.residue.PricedCase.is_overweight.Goals as goal
 
 pub returns : goal.returns

@@ -2,7 +2,8 @@ use Rattle.std.proofs.Common.{arith}
 use Rattle.measure.proofs.Laws.{lin}
 use Rattle.network.specs.View.{case_of}
 use Rattle.pricing.specs.Kept.{prices_of}
-use Rattle.pricing.proofs.Kept.{gave, price_within}
+use Rattle.measure.proofs.Sizes.{gave}
+use Rattle.pricing.proofs.Kept.{price_within}
 use Rattle.pricing.proofs.residue.PricedCase.price_size.Goals as goal
 
 pub size-requires : goal.size-requires

@@ -1,7 +1,8 @@
 use Rattle.std.proofs.Common.{◌≤◌, arith, lit≤, w8, Fits, rules}
 use Rattle.network.specs.View.{case_of}
 use Rattle.pricing.specs.Kept.{prices_of, kept_prices, price_size}
-use Rattle.pricing.proofs.Kept.{price_size_within, row_small, summed_rows}
+use Rattle.measure.proofs.Sums.{row_small, summed_rows}
+use Rattle.pricing.proofs.Kept.{price_size_within}
 use Rattle.pricing.proofs.residue.PricedCase.price_sizes.Goals as goal
 
 pub sum-requires-clause-small : goal.sum-requires-clause-small

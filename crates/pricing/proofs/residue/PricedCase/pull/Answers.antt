@@ -4,7 +4,8 @@ use Rattle.measure.proofs.Sizes.{fits}
 use Rattle.network.specs.Floor.{pull}
 use Rattle.network.specs.View.{case_of}
 use Rattle.pricing.specs.Kept.{prices_of}
-use Rattle.pricing.proofs.Kept.{gave, fits_as, passed_as, pulled_within}
+use Rattle.measure.proofs.Sizes.{gave}
+use Rattle.pricing.proofs.Kept.{fits_as, passed_as, pulled_within}
 use Rattle.pricing.proofs.residue.PricedCase.pull.Goals as goal
 
 pub overflow_add-weight : goal.overflow_add-weight

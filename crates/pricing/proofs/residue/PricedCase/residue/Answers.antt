@@ -2,7 +2,9 @@ use Rattle.std.proofs.Common.{◌∙◌, lit≤, rules}
 use Rattle.measure.proofs.Sums.{row_sum}
 use Rattle.network.specs.View.{case_of}
 use Rattle.pricing.specs.Kept.{prices_of, kept_prices, share}
-use Rattle.pricing.proofs.Kept.{gave, share_within, residue-shares, row_small}
+use Rattle.measure.proofs.Sums.{row_small}
+use Rattle.measure.proofs.Sizes.{gave}
+use Rattle.pricing.proofs.Kept.{share_within, residue-shares}
 use Rattle.pricing.proofs.residue.PricedCase.residue.Goals as goal
 
 pub sum-requires-clause-small : goal.sum-requires-clause-small

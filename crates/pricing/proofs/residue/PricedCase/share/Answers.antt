@@ -4,7 +4,8 @@ use Rattle.measure.proofs.Sizes.{fits}
 use Rattle.measure.proofs.Sums.{row_got}
 use Rattle.network.specs.View.{case_of}
 use Rattle.pricing.specs.Kept.{prices_of, kept_prices, share}
-use Rattle.pricing.proofs.Kept.{gave, fits_as, passed_as, share_within}
+use Rattle.measure.proofs.Sizes.{gave}
+use Rattle.pricing.proofs.Kept.{fits_as, passed_as, share_within}
 use Rattle.pricing.proofs.residue.PricedCase.share.Goals as goal
 
 pub overflow_sub-result : goal.overflow_sub-result

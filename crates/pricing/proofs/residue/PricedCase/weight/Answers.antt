@@ -3,7 +3,8 @@ use Rattle.std.proofs.lemmas.Int.{to_z-of_z}
 use Rattle.network.specs.Floor.{price}
 use Rattle.network.specs.View.{case_of}
 use Rattle.pricing.specs.Kept.{prices_of, kept_prices}
-use Rattle.pricing.proofs.Kept.{gave, susceptance_fits, weighed_by}
+use Rattle.measure.proofs.Sizes.{gave}
+use Rattle.pricing.proofs.Kept.{susceptance_fits, weighed_by}
 use Rattle.pricing.proofs.residue.PricedCase.weight.Goals as goal
 
 pub weighed-requires : goal.weighed-requires

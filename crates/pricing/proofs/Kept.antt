@@ -1,16 +1,16 @@
 -- A price list whose numbers outside their ranges count as 0: the sizes of its quantities.
-use Rattle.std.proofs.Common.{◌≡◌, ℕ, suc, ◌*◌, ◌^◌, ◌<◌, ◌≤◌, cond, eqb, ltb, List, length, take, ℤ, pos, negsuc, ◌+ℤ◌, ◌-ℤ◌, ◌*ℤ◌, sym, refl, ap, ◌∙◌, subst, arith, lit<, w64, SFits, to_z, of_z}
+use Rattle.std.proofs.Common.{◌≡◌, ℕ, ◌≤◌, cond, eqb, ltb, List, length, take, ℤ, pos, negsuc, ◌+ℤ◌, ◌-ℤ◌, ◌*ℤ◌, sym, refl, ap, ◌∙◌, subst, arith, lit<, w64, SFits, to_z, of_z}
 use native.Mathlib.Decide.{dec_lt}
-use lib.Signed.{mag, non_neg, le_z}
+use lib.Signed.{non_neg, le_z}
 use Rattle.std.proofs.lemmas.Int.{to_z-of_z}
 use Rattle.std.proofs.lemmas.Bool.{cond_both, le-leb}
 use Rattle.std.proofs.lemmas.List.{length-take}
 use Rattle.measure.specs.Range.{Within, ∣◌∣}
-use Rattle.measure.specs.Rows.{Row, rows, total, only, row_value, IsSumOf}
+use Rattle.measure.specs.Rows.{Row, rows, total, only, row_value}
 use Rattle.measure.proofs.Laws.{lin}
 use Rattle.measure.proofs.Order.{product_within, kept-within}
 use Rattle.measure.proofs.Sizes.{fits}
-use Rattle.measure.proofs.Sums.{total_sub, row_past, row_is, rows-small, row_sum, few_within}
+use Rattle.measure.proofs.Sums.{total_sub, row_past, row_is}
 use Rattle.network.specs.declared.bus.Bus.{Bus}
 use Rattle.network.specs.declared.branch.Branch.{Branch}
 use Rattle.network.specs.Ranges.{Weighed, Stretched, Charged, Worth}

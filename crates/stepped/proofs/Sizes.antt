@@ -1,9 +1,9 @@
 -- Each number on the way to a cost or a margin fits 64 bits.
-use Rattle.std.proofs.Common.{ℤ, pos, ◌+ℤ◌, ◌-ℤ◌, ◌*ℤ◌, arith, lit<, w64, SFits}
+use Rattle.std.proofs.Common.{ℤ, ◌+ℤ◌, ◌-ℤ◌, ◌*ℤ◌, arith, lit<, w64, SFits}
 use Rattle.measure.specs.Range.{Within}
 use Rattle.measure.proofs.Laws.{lin}
 use Rattle.measure.proofs.Order.{product_within}
-use Rattle.measure.proofs.Sizes.{fits, product_fits}
+use Rattle.measure.proofs.Sizes.{fits}
 use Rattle.machine.specs.declared.limits.Power.{Power}
 use Rattle.stepped.specs.declared.piecewise.Line.{Line}
 
@@ -43,6 +43,3 @@ pub net-fits : (w q y : ℤ) → Within 500000000000000 w → Within 1000000 q �
 net-fits w q y h k l =
     let t = product_within 1000000 100000000 q y k l in
     fits 600000000000000 (w -ℤ q *ℤ y) (lit< tt) (omega (arith, lin))
-
-pub million_fits : (c : ℤ) → Within 100000000 c → SFits w64 (pos 1000000 *ℤ c)
-million_fits c h = product_fits 1000000 100000000 (pos 1000000) c (lit< tt) (omega (arith, lin)) h

@@ -1,5 +1,4 @@
-use Rattle.std.proofs.Common.{false, not, pos, neg_ℤ, sym, ap, ◌∙◌, w64}
-use Rattle.std.proofs.lemmas.Int.{to_z-of_z}
+use Rattle.std.proofs.Common.{false, not, pos, neg_ℤ, sym, ap, ◌∙◌}
 use Rattle.measure.specs.Range.{between}
 use Rattle.measure.proofs.Sums.{row_got, row_past}
 use Rattle.network.specs.View.{case_of}

@@ -1,6 +1,5 @@
-use Rattle.std.proofs.Common.{eqb, ap₂, ◌∙◌, arith, w64}
+use Rattle.std.proofs.Common.{eqb, ap₂, ◌∙◌, arith}
 use borrow.Author.Differences.{ints}
-use Rattle.std.proofs.lemmas.Int.{to_z-of_z}
 use Rattle.measure.specs.Rows.{only}
 use Rattle.judging.specs.Whole.{angle_of}
 use Rattle.judging.proofs.Whole.{outflow_within}

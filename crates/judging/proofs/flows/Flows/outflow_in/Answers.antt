@@ -1,5 +1,4 @@
-use Rattle.std.proofs.Common.{pos, sym, ◌∙◌, w64}
-use Rattle.std.proofs.lemmas.Int.{to_z-of_z}
+use Rattle.std.proofs.Common.{pos, sym}
 use Rattle.measure.proofs.Sums.{row_got, row_past}
 use Rattle.judging.specs.Whole.{angle_of, outflow_row}
 use Rattle.measure.proofs.Sizes.{gave}

@@ -513,7 +513,7 @@ opener p kind.Stepped a m =
 opener p kind.Curved a m =
     let e = kind_word kind.Curved 1 (omega arith) in open_by p kind.Curved Curved (word_of kind.Curved 1) m e refl (e, (search rules))
 opener p kind.Branch a m =
-    let e = kind_word kind.Branch 65793 (omega arith) in open_by p kind.Branch Branch (word_of kind.Branch 65793) m e refl (e, search rules)
+    let e = kind_word kind.Branch 65793 (omega arith) in open_by p kind.Branch Branch (word_of kind.Branch 65793) m e refl (e, search rules, search rules, search rules)
 opener p kind.End a m =
     let e = kind_word kind.End 0 (omega arith) in
     (word_of kind.End 0, e, (subst (λ (j : Kind). may_stand p j ≡ true) (sym e) m, ((λ _. refl), λ n. absurd (n e))))

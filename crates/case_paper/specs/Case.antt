@@ -2,7 +2,7 @@
 use Rattle.std.specs.Prelude.{◌≡◌, ℕ, ◌+◌, ◌-◌, ◌/◌, ◌%◌, ◌≤◌, List, [], ◌∷◌, ◌++◌, replicate, pos, negsuc}
 use Rattle.std.specs.List.{flat_map, AllByRecursion}
 use Rattle.word.specs.Word.{kind_of, payload_of, word_of}
-use Rattle.word.specs.Slot.{Byte, BranchName, Matches}
+use Rattle.word.specs.Slot.{Byte, Matches}
 use Rattle.word.specs.declared.kind.Kind.{Kind}
 use Rattle.word.specs.declared.kind.Kind.TheVariants as kind
 use Rattle.word.specs.declared.slot.Slot.{Slot}
@@ -60,7 +60,8 @@ abbrev pub FirstWord : Sort → ℕ → Type 0
 FirstWord Bus x = (kind_of x ≡ kind.Bus) × Byte (payload_of x)
 FirstWord (Stepped n) x = (kind_of x ≡ kind.Stepped) × (payload_of x / 256 ≡ n) × (2 ≤ n) × (n ≤ 8) × Byte (payload_of x % 256)
 FirstWord Curved x = (kind_of x ≡ kind.Curved) × Byte (payload_of x)
-FirstWord Branch x = (kind_of x ≡ kind.Branch) × BranchName (payload_of x)
+FirstWord Branch x =
+    (kind_of x ≡ kind.Branch) × Byte (payload_of x / 65536) × Byte (payload_of x / 256 % 256) × Byte (payload_of x % 256)
 
 -- the amounts after it
 abbrev pub amounts_of : Sort → List Slot

@@ -6,37 +6,33 @@ use word::fault::*;
 
 const ROWS: [usize; 4] = [100, 30, 30, 200];
 
-fn checked(words: &[u32]) -> (u32, usize) {
-    of_case(check_case(words, &ROWS))
+fn checked(words: &[u32]) -> Result<(), Refusal> {
+    outcome(check_case(words, &ROWS))
 }
 
 #[test]
 fn small_cases(rt: HostRuntime) {
     let table = [
         // one bus
-        expect(&[0x1000_0001, A, A + 1, A, A, A, 0x2000_0001, A, END], 0, 0),
+        lawful(&[0x1000_0001, A, A + 1, A, A, A, 0x2000_0001, A, END]),
         // a bus, a curved machine
-        expect(
-            &[
-                0x1000_0001,
-                A,
-                A + 1,
-                A,
-                A + 1,
-                A,
-                0x2000_0001,
-                A,
-                0x4000_0001,
-                A,
-                A,
-                A,
-                A,
-                A + 1,
-                END,
-            ],
-            0,
-            0,
-        ),
+        lawful(&[
+            0x1000_0001,
+            A,
+            A + 1,
+            A,
+            A + 1,
+            A,
+            0x2000_0001,
+            A,
+            0x4000_0001,
+            A,
+            A,
+            A,
+            A,
+            A + 1,
+            END,
+        ]),
         expect(&[], 2, 0),
         expect(&[0x1000_0001, A, A + 1, A, A, A], 2, 6),
         expect(&[0x1000_0001, A, A + 1, A, A, A, 0x2000_0001], 2, 7),
@@ -75,7 +71,7 @@ fn small_cases(rt: HostRuntime) {
         ),
     ];
     for r in table.iter() {
-        assert_eq!(rt; checked(r.words), (r.number, r.place));
+        assert_eq!(rt; checked(r.words), r.outcome);
     }
 }
 
@@ -129,7 +125,7 @@ fn ranges_of_cases(rt: HostRuntime) {
         ),
     ];
     for r in table.iter() {
-        assert_eq!(rt; checked(r.words), (r.number, r.place));
+        assert_eq!(rt; checked(r.words), r.outcome);
     }
 }
 
@@ -297,7 +293,7 @@ fn records_of_cases(rt: HostRuntime) {
         ),
     ];
     for r in table.iter() {
-        assert_eq!(rt; checked(r.words), (r.number, r.place));
+        assert_eq!(rt; checked(r.words), r.outcome);
     }
     let two = [
         0x1000_0001,
@@ -312,8 +308,14 @@ fn records_of_cases(rt: HostRuntime) {
         A,
         END,
     ];
-    assert_eq!(rt; of_case(check_case(&two, &[1, 0, 0, 0])), (6, 8));
-    assert_eq!(rt; of_case(check_case(&two, &[2, 0, 0, 0])), (0, 0));
+    assert_eq!(rt;
+        outcome(check_case(&two, &[1, 0, 0, 0])),
+        Err(Refusal {
+            number: 6,
+            place: 8
+        })
+    );
+    assert_eq!(rt; outcome(check_case(&two, &[2, 0, 0, 0])), Ok(()));
 }
 
 #[test]
@@ -335,7 +337,7 @@ fn open_words(rt: HostRuntime) {
             Err(CaseFault::Record(RecordFault::Word(WordFault {
                 refusal: WordRefusal::Range,
                 place: 8,
-                first: 0x4000_0001
+                first: Some(0x4000_0001)
             })))
         )
     );
@@ -345,7 +347,7 @@ fn open_words(rt: HostRuntime) {
             Err(CaseFault::Record(RecordFault::Word(WordFault {
                 refusal: WordRefusal::Stops,
                 place: 8,
-                first: 0x4000_0001
+                first: Some(0x4000_0001)
             })))
         )
     );
@@ -355,7 +357,7 @@ fn open_words(rt: HostRuntime) {
             Err(CaseFault::Record(RecordFault::Word(WordFault {
                 refusal: WordRefusal::Stops,
                 place: 6,
-                first: 0
+                first: None
             })))
         )
     );

@@ -9,8 +9,8 @@ use std::test::Fail;
 #[test]
 fn demand_changes(rt: HostRuntime) -> Result<(), Fail> {
     let table = [
-        expect(&[0x1000_0004, 0x2000_0002, 0x6fff_ffff, END], 0, 0),
-        expect(&[0x1000_0004, 0x2000_00ff, A + 100_000_000, END], 0, 0),
+        lawful(&[0x1000_0004, 0x2000_0002, 0x6fff_ffff, END]),
+        lawful(&[0x1000_0004, 0x2000_00ff, A + 100_000_000, END]),
         expect(&[], 2, 0),
         expect(&[0x1000_0004], 2, 1),
         expect(&[0x1000_0004, 0x2000_0002, A], 2, 3),
@@ -27,7 +27,7 @@ fn demand_changes(rt: HostRuntime) -> Result<(), Fail> {
         expect(&[0x1000_0004, 0x2000_0001, A, END, END], 7, 4),
     ];
     for r in table.iter() {
-        assert_eq!(rt; of_word(read_demand_change(r.words)), (r.number, r.place));
+        assert_eq!(rt; outcome(read_demand_change(r.words)), r.outcome);
     }
     let change = read_demand_change(&[0x1000_0004, 0x2000_0002, 0x6fff_ffff, END])?;
     assert_eq!(rt; change.bus, 2);
@@ -38,8 +38,8 @@ fn demand_changes(rt: HostRuntime) -> Result<(), Fail> {
 #[test]
 fn mark_changes(rt: HostRuntime) -> Result<(), Fail> {
     let table = [
-        expect(&[0x1000_0005, 0x5001_0203, A + 1, END], 0, 0),
-        expect(&[0x1000_0005, 0x50ff_ffff, A, END], 0, 0),
+        lawful(&[0x1000_0005, 0x5001_0203, A + 1, END]),
+        lawful(&[0x1000_0005, 0x50ff_ffff, A, END]),
         expect(&[0x1000_0005, 0x5001_0203], 2, 2),
         expect(&[0x1000_0005, 0x2000_0001, A, END], 3, 1),
         expect(&[0x1000_0004, 0x5001_0203, A, END], 4, 0),
@@ -52,7 +52,7 @@ fn mark_changes(rt: HostRuntime) -> Result<(), Fail> {
         expect(&[0x1000_0005, 0x5001_0203, A, END, 0], 7, 4),
     ];
     for r in table.iter() {
-        assert_eq!(rt; of_word(read_mark_change(r.words)), (r.number, r.place));
+        assert_eq!(rt; outcome(read_mark_change(r.words)), r.outcome);
     }
     let change = read_mark_change(&[0x1000_0005, 0x5001_0203, A + 1, END])?;
     assert_eq!(rt;
@@ -70,8 +70,8 @@ fn mark_changes(rt: HostRuntime) -> Result<(), Fail> {
 #[test]
 fn hand_overs(rt: HostRuntime) -> Result<(), Fail> {
     let table = [
-        expect(&[0x1000_0007, A, END], 0, 0),
-        expect(&[0x1000_0007, A + 65_535, END], 0, 0),
+        lawful(&[0x1000_0007, A, END]),
+        lawful(&[0x1000_0007, A + 65_535, END]),
         expect(&[0x1000_0007, A], 2, 2),
         expect(&[0x1000_0007, END], 3, 1),
         expect(&[0x1000_0006, A, END], 4, 0),
@@ -80,7 +80,7 @@ fn hand_overs(rt: HostRuntime) -> Result<(), Fail> {
         expect(&[0x1000_0007, A, END, A], 7, 3),
     ];
     for r in table.iter() {
-        assert_eq!(rt; of_word(read_hand_over(r.words)), (r.number, r.place));
+        assert_eq!(rt; outcome(read_hand_over(r.words)), r.outcome);
     }
     assert_eq!(rt; read_hand_over(&[0x1000_0007, A + 65_535, END])?, 65_535);
     Ok(())

@@ -12,7 +12,7 @@ use std::test::Fail;
 #[test]
 fn dispatches(rt: HostRuntime) -> Result<(), Fail> {
     let table = [
-        expect(&[0x1000_0002, A + 600, A + 400, 0x6fff_ffc4, END], 0, 0),
+        lawful(&[0x1000_0002, A + 600, A + 400, 0x6fff_ffc4, END]),
         expect(&[0x1000_0002, A + 600], 2, 2),
         expect(&[0x1000_0002, A + 600, A + 400, A], 2, 4),
         expect(&[END], 3, 0),
@@ -26,7 +26,7 @@ fn dispatches(rt: HostRuntime) -> Result<(), Fail> {
         expect(&[0x1000_0002, A, A, A, END, A], 7, 5),
     ];
     for r in table.iter() {
-        assert_eq!(rt; of_word(read_dispatch(r.words, 2, 1)), (r.number, r.place));
+        assert_eq!(rt; outcome(read_dispatch(r.words, 2, 1)), r.outcome);
     }
     let words = [0x1000_0002, A + 600, A + 400, 0x6fff_ffc4, END];
     let paper = read_dispatch(&words, 2, 1)?;
@@ -41,12 +41,8 @@ fn dispatches(rt: HostRuntime) -> Result<(), Fail> {
 #[test]
 fn price_lists(rt: HostRuntime) -> Result<(), Fail> {
     let table = [
-        expect(
-            &[0x1000_0003, A + 30, A + 31, A + 1, A + 2, A + 3, A + 4, END],
-            0,
-            0,
-        ),
-        expect(&[0x1000_0003, A, A, A, A + 100_000_000, A, A, END], 0, 0),
+        lawful(&[0x1000_0003, A + 30, A + 31, A + 1, A + 2, A + 3, A + 4, END]),
+        lawful(&[0x1000_0003, A, A, A, A + 100_000_000, A, A, END]),
         expect(&[0x1000_0003, A, A, A, A, A, A], 2, 7),
         expect(&[0x1000_0003, A, A, A, A, END], 3, 5),
         expect(&[0x1000_0003, A, A, A, A, A, A, A], 3, 7),
@@ -58,7 +54,7 @@ fn price_lists(rt: HostRuntime) -> Result<(), Fail> {
         expect(&[0x1000_0003, A, A, A, A, A, A, END, END], 7, 8),
     ];
     for r in table.iter() {
-        assert_eq!(rt; of_word(read_prices(r.words, 2, 2)), (r.number, r.place));
+        assert_eq!(rt; outcome(read_prices(r.words, 2, 2)), r.outcome);
     }
     let words = [0x1000_0003, A + 30, A + 31, A + 1, A + 2, A + 3, A + 4, END];
     let paper = read_prices(&words, 2, 2)?;
@@ -75,7 +71,7 @@ fn price_lists(rt: HostRuntime) -> Result<(), Fail> {
 #[test]
 fn trials(rt: HostRuntime) -> Result<(), Fail> {
     let table = [
-        expect(&[0x1000_0006, 0x5001_0102, A, A, A, END], 0, 0),
+        lawful(&[0x1000_0006, 0x5001_0102, A, A, A, END]),
         expect(&[0x1000_0006], 2, 1),
         expect(&[0x1000_0006, A], 3, 1),
         expect(&[0x1000_0003, 0x5001_0102, A, A, A, END], 4, 0),
@@ -84,7 +80,7 @@ fn trials(rt: HostRuntime) -> Result<(), Fail> {
         expect(&[0x1000_0006, 0x5001_0102, A, A, A, END, END], 7, 6),
     ];
     for r in table.iter() {
-        assert_eq!(rt; of_word(read_trial(r.words, 1, 1)), (r.number, r.place));
+        assert_eq!(rt; outcome(read_trial(r.words, 1, 1)), r.outcome);
     }
     let words = [0x1000_0006, 0x5001_0102, A + 7, A + 8, A + 9, END];
     let paper = read_trial(&words, 1, 1)?;

@@ -1,4 +1,4 @@
-// A row of a table: words, and the refusal's number and place; 0 and 0 where they are a lawful paper.
+// A row of a table: words, and whether they are a lawful paper or how they are refused.
 use case_paper::fault::CaseFault;
 use word::fault::WordFault;
 
@@ -6,31 +6,57 @@ pub const A: u32 = 0x6000_0000;
 
 pub const END: u32 = 0x7000_0000;
 
-#[derive(Clone, Copy, Drop)]
-pub struct Row<'a> {
-    pub words: &'a [u32],
+// A refusal's number, and its place.
+#[derive(Clone, Copy, PartialEq, Eq, Debug)]
+pub struct Refusal {
     pub number: u32,
     pub place: usize,
 }
 
+#[derive(Clone, Copy, Drop)]
+pub struct Row<'a> {
+    pub words: &'a [u32],
+    pub outcome: Result<(), Refusal>,
+}
+
+// A lawful paper.
+pub fn lawful<'a>(words: &'a [u32]) -> Row<'a> {
+    Row {
+        words,
+        outcome: Ok(()),
+    }
+}
+
+// Words that are refused so.
 pub fn expect<'a>(words: &'a [u32], number: u32, place: usize) -> Row<'a> {
     Row {
         words,
-        number,
-        place,
+        outcome: Err(Refusal { number, place }),
     }
 }
 
-pub fn of_word<T: Drop>(r: Result<T, WordFault>) -> (u32, usize) {
-    match r {
-        Ok(_) => (0, 0),
-        Err(f) => (f.refusal.number(), f.place),
+impl From<WordFault> for Refusal {
+    fn from(f: WordFault) -> Refusal {
+        Refusal {
+            number: f.refusal.number(),
+            place: f.place,
+        }
     }
 }
 
-pub fn of_case<T: Drop>(r: Result<T, CaseFault>) -> (u32, usize) {
-    match r {
-        Ok(_) => (0, 0),
-        Err(f) => (f.number(), f.place()),
+impl From<CaseFault> for Refusal {
+    fn from(f: CaseFault) -> Refusal {
+        Refusal {
+            number: f.number(),
+            place: f.place(),
+        }
+    }
+}
+
+// What a reader makes of words, whatever it reads.
+pub fn outcome<T: Drop, F: Into<Refusal>>(read: Result<T, F>) -> Result<(), Refusal> {
+    match read {
+        Ok(_) => Ok(()),
+        Err(f) => Err(f.into()),
     }
 }

@@ -53,12 +53,12 @@ module _ {T : Type 0} (row : Record → T) (k : ℕ) (rs : List Record) (r : Rec
   rows_other e = h ∙ sym (ap (map row) (of_rank_other k rs r e))
 
 -- how many amounts a machine with n points has
-pub stepped-size : (n : ℕ) → length (amounts_of (sort.Stepped n)) ≡ 3 + n + (n - 1)
-stepped-size n =
+pub stepped_size : (n : ℕ) → length (amounts_of (sort.Stepped n)) ≡ 3 + n + (n - 1)
+stepped_size n =
     let a = length-append (replicate (3 + n) power_slot) (replicate (n - 1) price_slot) in
     let b = length-replicate (3 + n) power_slot in
     let d = length-replicate (n - 1) price_slot in
     omega arith
 
 pub stepped-long : (n : ℕ) (xs : List ℕ) → Matches (amounts_of (sort.Stepped n)) xs → length xs ≡ 3 + n + (n - 1)
-stepped-long n xs m = matches_length (amounts_of (sort.Stepped n)) xs m ∙ stepped-size n
+stepped-long n xs m = matches_length (amounts_of (sort.Stepped n)) xs m ∙ stepped_size n

@@ -7,6 +7,7 @@ use crate::rows::CaseRows;
 use case_paper::sort::Sort;
 
 // How many amounts a record of the sort has.
+#[tactic(auto, using(crate::proofs::Keeping::stepped_size))]
 fn amount_count(sort: Sort) -> usize
     requires { length (amounts_of sort) ≤ 18 }
     ensures { result ≡ length (amounts_of sort) }

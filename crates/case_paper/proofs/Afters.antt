@@ -1,5 +1,5 @@
 -- Where the reader is after words of a known shape; so those shapes exclude one another, and each is unique.
-use Rattle.std.proofs.Common.{◌≡◌, ℕ, suc, ◌+◌, ◌-◌, ◌<◌, List, [], ◌∷◌, ◌++◌, length, take, drop, sym, refl, ap, ◌∙◌, inl, inr, arith}
+use Rattle.std.proofs.Common.{rules, Some, None, Option, ◌≡◌, ℕ, suc, ◌+◌, ◌-◌, ◌<◌, List, [], ◌∷◌, ◌++◌, length, take, drop, sym, refl, ap, ◌∙◌, inl, inr, arith}
 use Rattle.std.specs.List.{flat_map, AllByRecursion}
 use Rattle.std.proofs.lemmas.List.{append_assoc, append-nil, length-append, length-take-le, take_at, drop_at, take-take, flat_map_more, take_all, take-append-drop, same_from_push}
 use Rattle.std.proofs.ByRecursion.{All-push}
@@ -17,7 +17,7 @@ use Rattle.case_paper.specs.CaseFault.{Whole, Inside, OpenWord, Completes}
 use Rattle.case_paper.specs.State.{after_sort, open_first, next, Takes}
 use Rattle.case_paper.specs.declared.sort.Sort.{Sort}
 use Rattle.case_paper.specs.declared.state.State.{State}
-use Rattle.case_paper.specs.declared.state.State.TheVariants.{Head, Counts, Next, Amounts, Done}
+use Rattle.case_paper.specs.declared.state.State.TheVariants.{Head, Next, Amounts, Done}
 use Rattle.case_paper.proofs.States.{first-sort, first-no_end, next-record, next_more, next_last, amounts_some}
 use Rattle.case_paper.proofs.Cases.{Final, ∷-parts}
 
@@ -85,34 +85,24 @@ run_inside p x i =
     )
 
 -- ---- the states differ
-tag : State → ℕ
-tag Head = 0
-tag (Counts read) = 1
-tag (Next p) = 2
-tag (Amounts q first read) = 3
-tag Done = 4
-
 pub next-amounts : (a : Place) (q : Sort) (x read : ℕ) → Next a ≡ Amounts q x read → ⊥
-unfolding tag
-next-amounts a q x read e = let z : ◌≡◌ {A = ℕ} 2 3 = ap tag e in omega arith
+next-amounts a q x read e = search rules
 
 pub next-done : (a : Place) → Next a ≡ Done → ⊥
-unfolding tag
-next-done a e = let z : ◌≡◌ {A = ℕ} 2 4 = ap tag e in omega arith
+next-done a e = search rules
 
 pub amounts_done : (q : Sort) (x read : ℕ) → Amounts q x read ≡ Done → ⊥
-unfolding tag
-amounts_done q x read e = let z : ◌≡◌ {A = ℕ} 3 4 = ap tag e in omega arith
+amounts_done q x read e = search rules
 
 -- ---- the open word
-pub inside_open : (p : List ℕ) (x : ℕ) → Inside p x → open_first (run Head p) ≡ x
+pub inside_open : (p : List ℕ) (x : ℕ) → Inside p x → open_first (run Head p) ≡ Some x
 inside_open p x i = ap open_first (run_inside p x i).2
 
-pub open_same : (p : List ℕ) (x y : ℕ) → OpenWord p x → OpenWord p y → x ≡ y
-open_same p x y (inl i) (inl j) = sym (inside_open p x i) ∙ inside_open p y j
-open_same p x y (inl i) (inr n) = absurd (n.1 x i)
-open_same p x y (inr n) (inl j) = absurd (n.1 y j)
-open_same p x y (inr n) (inr m) = n.0 ∙ sym m.0
+pub open_same : (p : List ℕ) (x y : Option ℕ) → OpenWord p x → OpenWord p y → x ≡ y
+open_same p (Some x) (Some y) i j = sym (inside_open p x i) ∙ inside_open p y j
+open_same p (Some x) None i n = absurd (n x i)
+open_same p None (Some y) n j = absurd (n y j)
+open_same p None None n m = refl
 
 -- ---- the records of a list of words
 made : Sort → ℕ → List ℕ → Record

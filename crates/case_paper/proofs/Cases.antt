@@ -493,38 +493,17 @@ open_by p k q x m e f w = (
   ),
 )
 
-no_unknown : (p : Place) → AtRecord p → may_stand p kind.Unknown ≡ true → ⊥
-no_unknown place.Head a m = a
-no_unknown place.BusName a m = a
-no_unknown place.BranchName a m = a
-no_unknown place.Amount a m = a
-no_unknown place.End a m = a
-no_unknown place.Buses a m = both_ways false refl m
-no_unknown place.Stepped a m = both_ways false refl m
-no_unknown place.Curved a m = both_ways false refl m
-no_unknown place.Branches a m = both_ways false refl m
-
-no_head : (p : Place) → AtRecord p → may_stand p kind.Head ≡ true → ⊥
-no_head place.Head a m = a
-no_head place.BusName a m = a
-no_head place.BranchName a m = a
-no_head place.Amount a m = a
-no_head place.End a m = a
-no_head place.Buses a m = both_ways false refl m
-no_head place.Stepped a m = both_ways false refl m
-no_head place.Curved a m = both_ways false refl m
-no_head place.Branches a m = both_ways false refl m
-
-no_amount : (p : Place) → AtRecord p → may_stand p kind.Amount ≡ true → ⊥
-no_amount place.Head a m = a
-no_amount place.BusName a m = a
-no_amount place.BranchName a m = a
-no_amount place.Amount a m = a
-no_amount place.End a m = a
-no_amount place.Buses a m = both_ways false refl m
-no_amount place.Stepped a m = both_ways false refl m
-no_amount place.Curved a m = both_ways false refl m
-no_amount place.Branches a m = both_ways false refl m
+-- the kinds that begin no record and end no case
+no_opener : (p : Place) → AtRecord p → (may_stand p kind.Unknown ≡ false) × (may_stand p kind.Head ≡ false) × (may_stand p kind.Amount ≡ false)
+no_opener place.Head a = absurd a
+no_opener place.BusName a = absurd a
+no_opener place.BranchName a = absurd a
+no_opener place.Amount a = absurd a
+no_opener place.End a = absurd a
+no_opener place.Buses a = (refl, refl, refl)
+no_opener place.Stepped a = (refl, refl, refl)
+no_opener place.Curved a = (refl, refl, refl)
+no_opener place.Branches a = (refl, refl, refl)
 
 opener : (p : Place) (k : Kind) → AtRecord p → may_stand p k ≡ true → Opener p k
 opener p kind.Bus a m =
@@ -538,9 +517,9 @@ opener p kind.Branch a m =
 opener p kind.End a m =
     let e = kind_word kind.End 0 (omega arith) in
     (word_of kind.End 0, e, (subst (λ (j : Kind). may_stand p j ≡ true) (sym e) m, ((λ _. refl), λ n. absurd (n e))))
-opener p kind.Unknown a m = absurd (no_unknown p a m)
-opener p kind.Head a m = absurd (no_head p a m)
-opener p kind.Amount a m = absurd (no_amount p a m)
+opener p kind.Unknown a m = absurd (both_ways (may_stand p kind.Unknown) (no_opener p a).0 m)
+opener p kind.Head a m = absurd (both_ways (may_stand p kind.Head) (no_opener p a).1 m)
+opener p kind.Amount a m = absurd (both_ways (may_stand p kind.Amount) (no_opener p a).2 m)
 
 pub stands_word : (s : State) (k : Kind) → Good s → (s ≡ Done → ⊥) → may_stand (state_place s) k ≡ true → (x : ℕ) × (kind_of x ≡ k) × Takes s x
 stands_word Head k g n m = (word_of kind.Head 1, kind_word kind.Head 1 (omega arith) ∙ sym (at_head k m), takes_head)

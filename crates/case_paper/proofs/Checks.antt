@@ -1,5 +1,5 @@
 -- The reader of a case after some of its words, and the four ways in which it stops at a word.
-use Rattle.std.proofs.Common.{◌≡◌, ℕ, ◌+◌, ◌<◌, ◌≤◌, true, List, [], ◌∷◌, ◌++◌, length, get_or, take, sym, refl, ap, ◌∙◌, subst, inl, inr, arith}
+use Rattle.std.proofs.Common.{None, Some, rules, ◌≡◌, ℕ, ◌+◌, ◌<◌, ◌≤◌, true, List, [], ◌∷◌, ◌++◌, length, get_or, take, sym, refl, ap, ◌∙◌, subst, arith}
 use Rattle.std.proofs.lemmas.List.{take_more, take_all, append-nil, append_assoc}
 use Rattle.word.specs.Word.{kind_of}
 use Rattle.word.specs.Form.{Begins, Refused, Ended, Exact}
@@ -13,13 +13,12 @@ use Rattle.word.proofs.Machines as machine
 use Rattle.case_paper.specs.Case.{CaseForm, Record}
 use Rattle.case_paper.specs.CaseFault.{OpenWord}
 use Rattle.case_paper.specs.State.{state_place, open_first, next, Takes, Missteps, Good}
-use Rattle.case_paper.specs.declared.sort.Sort.{Sort}
 use Rattle.case_paper.specs.declared.state.State.{State}
 use Rattle.case_paper.specs.declared.state.State.TheVariants.{Head, Counts, Next, Amounts, Done}
 use Rattle.case_paper.proofs.States.{good_next}
 use Rattle.case_paper.proofs.Stages.{Stage, stage_inside}
 use Rattle.case_paper.proofs.Cases.{Final, Accepts, case_to, case_from, live, stands_word}
-use Rattle.case_paper.proofs.Afters.{run, run_inside}
+use Rattle.case_paper.proofs.Afters.{run, inside_open}
 
 -- the words p are taken, and lead to this state
 pub record Read (p : List ℕ) (s : State) (h : List ℕ) (rs : List Record) : Type 0 where
@@ -27,9 +26,6 @@ pub record Read (p : List ℕ) (s : State) (h : List ℕ) (rs : List Record) : T
   pub state : s ≡ run Head p
   pub good : Good s
   pub stage : Stage s p h rs
-
-pub read_none : Read [] Head [] []
-read_none = record { runs = tt; state = refl; good = tt; stage = (refl, refl) }
 
 -- one word more, with whatever records there are after it
 pub read_next : (w : List ℕ) (i : ℕ) (s s' : State) (h h' : List ℕ) (rs rs' : List Record) → Read (take i w) s h rs → i < length w → Takes s (get_or w i 0) → s' ≡ next s (get_or w i 0) → Stage (next s (get_or w i 0)) (take i w ++ (get_or w i 0 ∷ [])) h' rs' → Read (take (i + 1) w) s' h' rs'
@@ -62,23 +58,19 @@ read_done p s h rs r e =
 pub read_all : (w : List ℕ) (i : ℕ) (h : List ℕ) (rs : List Record) → Read (take i w) Done h rs → length w ≤ i → CaseForm w
 read_all w i h rs r l = subst CaseForm (take_all i w l) (read_done (take i w) Done h rs r refl)
 
-closed_word : (s : State) (p : List ℕ) → s ≡ run Head p → open_first s ≡ 0 → ((q : Sort) (x read : ℕ) → s ≡ Amounts q x read → ⊥) → OpenWord p (open_first s)
-closed_word s p e z n = inr (z, λ x i. let t = run_inside p x i in n t.0 x t.1 (e ∙ t.2))
+some_none : {x : ℕ} → Some x ≡ None → ⊥
+some_none e = search rules
 
-abbrev tag : State → ℕ
-tag Head = 0
-tag (Counts read) = 1
-tag (Next p) = 2
-tag (Amounts q first read) = 3
-tag Done = 4
+closed_word : (s : State) (p : List ℕ) → s ≡ run Head p → open_first s ≡ None → OpenWord p (open_first s)
+closed_word s p e z = subst (OpenWord p) (sym z) (λ x i. some_none (sym (inside_open p x i) ∙ ap open_first (sym e) ∙ z))
 
 -- the first word of the record that is open
 pub open_word : (s : State) (p h : List ℕ) (rs : List Record) → Read p s h rs → OpenWord p (open_first s)
-open_word Head p h rs r = closed_word Head p r.state refl (λ q x read e. let z : ◌≡◌ {A = ℕ} 0 3 = ap tag e in omega arith)
-open_word (Counts n) p h rs r = closed_word (Counts n) p r.state refl (λ q x read e. let z : ◌≡◌ {A = ℕ} 1 3 = ap tag e in omega arith)
-open_word (Next a) p h rs r = closed_word (Next a) p r.state refl (λ q x read e. let z : ◌≡◌ {A = ℕ} 2 3 = ap tag e in omega arith)
-open_word (Amounts q first read) p h rs r = inl (stage_inside q first read p h rs r.good r.stage)
-open_word Done p h rs r = closed_word Done p r.state refl (λ q x read e. let z : ◌≡◌ {A = ℕ} 4 3 = ap tag e in omega arith)
+open_word Head p h rs r = closed_word Head p r.state refl
+open_word (Counts n) p h rs r = closed_word (Counts n) p r.state refl
+open_word (Next a) p h rs r = closed_word (Next a) p r.state refl
+open_word (Amounts q first read) p h rs r = stage_inside q first read p h rs r.good r.stage
+open_word Done p h rs r = closed_word Done p r.state refl
 
 module _ (w : List ℕ) (i : ℕ) (s : State) (h : List ℕ) (rs : List Record) (r : Read (take i w) s h rs) where
   here : State

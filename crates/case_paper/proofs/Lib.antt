@@ -1,4 +1,3 @@
-pub mod Layouts
 pub mod States
 pub mod Cases
 pub mod Afters
@@ -6,3 +5,4 @@ pub mod Stages
 pub mod Checks
 pub mod Outcomes
 pub mod Progress
+pub mod Orders

@@ -24,23 +24,18 @@ use Rattle.case_paper.proofs.Cases.{∷-parts}
 use Rattle.case_paper.proofs.Checks.{form_exact}
 
 -- ---- the same number at the same word is the same fault
+numbered : ℕ → WordRefusal
+numbered n = cond (eqb n 2) Stops (cond (eqb n 3) KindRefusal (cond (eqb n 4) Range Follows))
+
+numbered-back : (r : WordRefusal) → numbered (refusal_number r) ≡ r
+unfolding numbered
+numbered-back Stops = refl
+numbered-back KindRefusal = refl
+numbered-back Range = refl
+numbered-back Follows = refl
+
 number_same : (r t : WordRefusal) → refusal_number r ≡ refusal_number t → r ≡ t
-number_same Stops Stops e = refl
-number_same Stops KindRefusal e = absurd (omega arith)
-number_same Stops Range e = absurd (omega arith)
-number_same Stops Follows e = absurd (omega arith)
-number_same KindRefusal Stops e = absurd (omega arith)
-number_same KindRefusal KindRefusal e = refl
-number_same KindRefusal Range e = absurd (omega arith)
-number_same KindRefusal Follows e = absurd (omega arith)
-number_same Range Stops e = absurd (omega arith)
-number_same Range KindRefusal e = absurd (omega arith)
-number_same Range Range e = refl
-number_same Range Follows e = absurd (omega arith)
-number_same Follows Stops e = absurd (omega arith)
-number_same Follows KindRefusal e = absurd (omega arith)
-number_same Follows Range e = absurd (omega arith)
-number_same Follows Follows e = refl
+number_same r t e = sym (numbered-back r) ∙ ap numbered e ∙ numbered-back t
 
 not_order : (r : WordRefusal) → (refusal_number r ≡ 5 → ⊥) × (refusal_number r ≡ 6 → ⊥)
 not_order Stops = ((λ e. omega arith), λ e. omega arith)

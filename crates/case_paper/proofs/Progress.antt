@@ -1,5 +1,5 @@
 -- The reader of a case with the records so far: in order, counted, and no fault shown.
-use Rattle.std.proofs.Common.{◌≡◌, ℕ, zero, suc, ◌+◌, ◌-◌, ◌<◌, ◌≤◌, cond, eqb, ◌⊎◌, List, [], ◌∷◌, ◌++◌, length, get_or, take, drop, set, sym, refl, ap, ◌∙◌, subst, inl, inr, arith}
+use Rattle.std.proofs.Common.{rules, None, Option, ◌≡◌, ℕ, suc, ◌+◌, ◌-◌, ◌<◌, ◌≤◌, cond, eqb, ◌⊎◌, List, [], ◌∷◌, ◌++◌, length, get_or, take, drop, set, sym, refl, ap, ◌∙◌, subst, inl, inr, arith}
 use Rattle.std.specs.List.{flat_map, AllByRecursion}
 use Rattle.std.proofs.lemmas.List.{append_assoc, append-nil, take_more, take_all, length-append, length-take-le, drop_at, get_or-set_same, get_or-set_other, get_or-take, get_or_append_left, take_at, take-take, length-set, length-take, same_from_push}
 use Rattle.std.proofs.lemmas.Slice.{between_is}
@@ -28,7 +28,7 @@ use Rattle.case_paper.specs.declared.fault.RecordFault.{RecordFault}
 use Rattle.case_paper.specs.declared.fault.RecordFault.TheVariants.{Word, Order, Count}
 use Rattle.case_paper.proofs.States.{end_or_not, next-record, next-count, next-counted, next_more, next_last}
 use Rattle.case_paper.proofs.Stages.{Part, Ends, Stage, StageAt, stage_same, amount_more, record_of, part_formed, part_whole}
-use Rattle.case_paper.proofs.Checks.{Read, read_none, read_next, read_begins, read_all, open_word, read_stops, read_misstep, begins_quiet, form_exact}
+use Rattle.case_paper.proofs.Checks.{Read, read_next, read_begins, read_all, open_word, read_stops, read_misstep, begins_quiet, form_exact}
 use Rattle.case_paper.proofs.Afters.{run-whole, run_inside, whole_same, whole_of, completes_inside, completes_whole, completes_same, next-amounts, next-done, amounts_done}
 use Rattle.case_paper.proofs.Outcomes.{rank-small, no_more}
 
@@ -104,9 +104,6 @@ module _ (w h : List ℕ) (i : ℕ) (rs : List Record) (v : Whole (take i w) h r
       let b = length-append h (flat_map record_words rs) in
       let c = head_long in omega arith
 
-  pub words_long : 6 ≤ length w
-  words_long = let t = taken_long in let m = length-take i w in omega arith
-
   pub head_read : (k : ℕ) → k < 4 → head_count w k ≡ head_count h k
   head_read k l =
       let t = taken_long in
@@ -133,40 +130,6 @@ module _ (w h : List ℕ) (i : ℕ) (rs : List Record) (v : Whole (take i w) h r
       let e = t (rank q) b in
       let d = head_read (rank q) b in
       (omega arith, omega arith)
-
-zeros : Tally (0 ∷ 0 ∷ 0 ∷ 0 ∷ []) []
-zeros zero h = refl
-zeros (suc zero) h = refl
-zeros (suc (suc zero)) h = refl
-zeros (suc (suc (suc zero))) h = refl
-zeros (suc (suc (suc (suc k)))) h = absurd (omega arith)
-
-none-fit : (rows : List ℕ) (k : ℕ) → k < 4 → get_or (0 ∷ 0 ∷ 0 ∷ 0 ∷ []) k 0 ≤ get_or rows k 0
-none-fit rows k h = let t = zeros k h in omega arith
-
-head_not_done : Head ≡ Done → ⊥
-head_not_done e = let z : ◌≡◌ {A = ℕ} 0 1 = ap tag e in omega arith
-  where
-    tag : State → ℕ
-    tag Head = 0
-    tag (Counts read) = 2
-    tag (Next p) = 3
-    tag (Amounts q first read) = 4
-    tag Done = 1
-
-pub progress_none : (rows w : List ℕ) → Progress rows w 0 Head (0 ∷ 0 ∷ 0 ∷ 0 ∷ [])
-progress_none rows w =
-    record {
-      head = [];
-      records = [];
-      got = read_none;
-      ordered = tt;
-      tally = zeros;
-      four = refl;
-      fitting = none-fit rows;
-      met = λ e. absurd (head_not_done e);
-      quiet = λ j g s l. omega arith;
-    }
 
 quiet_more : (rows w : List ℕ) (i : ℕ) → Quiet rows w i → ((g : RecordFault) → Shows rows w i g → ⊥) → Quiet rows w (i + 1)
 quiet_more rows w i q n j g s l =
@@ -197,10 +160,6 @@ not_first rows w j i (Order a b) l e t k = omega arith
 not_first rows w j i (Count a b) l e t k = omega arith
 
 module _ (rows w : List ℕ) (i : ℕ) (s : State) (counts : List ℕ) (p : Progress rows w i s counts) where
-  -- there are as many words as the head has
-  pub long : (a : Place) → s ≡ Next a → 6 ≤ length w
-  long a e = words_long w p.head i p.records (subst (λ (z : State). Stage z (take i w) p.head p.records) e p.got.stage)
-
   -- an end word too early shows only where the reader is between records
   early_state : EarlyEnd w i → (b : Place) × (s ≡ Next b)
   early_state x = let b = run-whole (take i w) x.head x.records x.whole in (b.0, p.got.state ∙ b.1)
@@ -246,7 +205,7 @@ module _ (rows w : List ℕ) (i : ℕ) (s : State) (counts : List ℕ) (p : Prog
       least (Count a b) l = omega arith
 
   -- an end word stands too early
-  pub refused_early : i < length w → Ending s (get_or w i 0) → (Counted counts w → ⊥) → RefusedCase rows w (Word (record { refusal = KindRefusal; place = i; first = 0 }))
+  pub refused_early : i < length w → Ending s (get_or w i 0) → (Counted counts w → ⊥) → RefusedCase rows w (Word (record { refusal = KindRefusal; place = i; first = None }))
   refused_early l (a, e, k) n =
       let v : Whole (take i w) p.head p.records = subst (λ (z : State). Stage z (take i w) p.head p.records) e p.got.stage in
       record {
@@ -289,31 +248,23 @@ module _ (rows w : List ℕ) (i : ℕ) (s : State) (counts : List ℕ) (p : Prog
           let d = completes_state place h rs t c in late_done r m d.0 d.1 d.2 d.3 (omega arith)
 
 -- ---- the end word
-state_tag : State → ℕ
-state_tag Head = 0
-state_tag (Counts read) = 1
-state_tag (Next p) = 2
-state_tag (Amounts q first read) = 3
-state_tag Done = 4
-
 -- only an end word between records leads to the end
 ending : (s : State) (x : ℕ) → Takes s x → next s x ≡ Done → Ending s x
-unfolding state_tag
-ending Head x t e = absurd (let z : ◌≡◌ {A = ℕ} 1 4 = ap state_tag e in omega arith)
+ending Head x t e = absurd (search rules)
 ending (Counts read) x t e =
     absurd (elim (cases_lt (read + 1) 5) [
-      | inl l ↦ let z : ◌≡◌ {A = ℕ} 1 4 = ap state_tag (sym (next-count read x l) ∙ e) in omega arith
-      | inr l ↦ let z : ◌≡◌ {A = ℕ} 2 4 = ap state_tag (sym (next-counted read x l) ∙ e) in omega arith
+      | inl l ↦ let z = sym (next-count read x l) ∙ e in search rules
+      | inr l ↦ let z = sym (next-counted read x l) ∙ e in search rules
     ])
 ending (Next a) x t e =
     elim (end_or_not (kind_of x)) [
       | inl k ↦ (a, refl, k)
-      | inr n ↦ absurd (let z : ◌≡◌ {A = ℕ} 3 4 = ap state_tag (sym (next-record a x n) ∙ e) in omega arith)
+      | inr n ↦ absurd (let z = sym (next-record a x n) ∙ e in search rules)
     ]
 ending (Amounts q first read) x t e =
     absurd (elim (cases_lt (read + 1) (length (amounts_of q))) [
-      | inl l ↦ let z : ◌≡◌ {A = ℕ} 3 4 = ap state_tag (sym (next_more q first read x l) ∙ e) in omega arith
-      | inr l ↦ let z : ◌≡◌ {A = ℕ} 2 4 = ap state_tag (sym (next_last q first read x l) ∙ e) in omega arith
+      | inl l ↦ let z = sym (next_more q first read x l) ∙ e in search rules
+      | inr l ↦ let z = sym (next_last q first read x l) ∙ e in search rules
     ])
 ending Done x t e = absurd t.1
 
@@ -435,10 +386,6 @@ module _ (rows w : List ℕ) (i : ℕ) (s s' : State) (counts : List ℕ) (p : P
         formed = part_formed q first (read + 1) (take i w ++ (x ∷ [])) p.head p.records good.0 closed_last full;
       }
 
-  pub closed_words : 6 ≤ length w
-  closed_words =
-      words_long w p.head ((i - read) - 1) p.records completes.whole
-
   after_read : Read (take (i + 1) w) s' p.head (p.records ++ (made ∷ []))
   unfolding made x
   after_read =
@@ -555,6 +502,6 @@ progress_all rows w i counts p l =
     }
 
 -- a fault by its parts
-pub refused_as : (rows w : List ℕ) (f : WordFault) (r : WordRefusal) (place first : ℕ) → f.refusal ≡ r → f.place ≡ place → f.first ≡ first → RefusedCase rows w (Word (record { refusal = r; place = place; first = first })) → RefusedCase rows w (Word f)
+pub refused_as : (rows w : List ℕ) (f : WordFault) (r : WordRefusal) (place : ℕ) (first : Option ℕ) → f.refusal ≡ r → f.place ≡ place → f.first ≡ first → RefusedCase rows w (Word (record { refusal = r; place = place; first = first })) → RefusedCase rows w (Word f)
 refused_as rows w f r place first a b c d =
     subst (λ (z : WordFault). RefusedCase rows w (Word z)) (λ i. record { refusal = sym a i; place = sym b i; first = sym c i }) d

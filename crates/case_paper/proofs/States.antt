@@ -1,8 +1,8 @@
 -- The states of the reader of a case.
-use Rattle.std.proofs.Common.{◌≡◌, ℕ, ◌+◌, ◌<◌, ◌≤◌, ltb, ◌⊎◌, length, sym, refl, ap, ◌∙◌, subst, inl, inr, arith}
+use Rattle.std.proofs.Common.{rules, ◌≡◌, ℕ, ◌+◌, ◌<◌, ◌≤◌, ltb, ◌⊎◌, length, sym, refl, ap, ◌∙◌, subst, inl, inr, arith}
 use Rattle.std.proofs.lemmas.List.{length-append, length-replicate}
 use Rattle.std.proofs.lemmas.Bool.{cond-true, cond-false, lt-ltb, le-ltb, cases_lt}
-use Rattle.word.specs.Word.{kind_number, kind_of, payload_of}
+use Rattle.word.specs.Word.{kind_of, payload_of}
 use Rattle.word.specs.declared.kind.Kind.{Kind}
 use Rattle.word.specs.declared.kind.Kind.TheVariants as kind
 use Rattle.word.specs.declared.place.Place.{Place}
@@ -20,9 +20,6 @@ amounts_short (Stepped n) first f = simp (length-append, length-replicate) (omeg
 amounts_short Curved first f = omega arith
 amounts_short Branch first f = omega arith
 
-pub read_short : (s : Sort) (first read : ℕ) → Good (Amounts s first read) → read < 18
-read_short s first read g = let n = amounts_short s first g.0 in omega arith
-
 pub first_kind : (s : Sort) (x : ℕ) → FirstWord s x → kind_of x ≡ sort_kind s
 first_kind Bus x f = f.0
 first_kind (Stepped n) x f = f.0
@@ -37,23 +34,23 @@ first-sort Branch x f = ap (λ (k : Kind). sort_at k (payload_of x)) f.0
 
 -- no record begins with an end word
 pub sort_no_end : (s : Sort) → sort_kind s ≡ kind.End → ⊥
-sort_no_end Bus e = let z : ◌≡◌ {A = ℕ} 2 7 = ap kind_number e in omega arith
-sort_no_end (Stepped n) e = let z : ◌≡◌ {A = ℕ} 3 7 = ap kind_number e in omega arith
-sort_no_end Curved e = let z : ◌≡◌ {A = ℕ} 4 7 = ap kind_number e in omega arith
-sort_no_end Branch e = let z : ◌≡◌ {A = ℕ} 5 7 = ap kind_number e in omega arith
+sort_no_end Bus e = search rules
+sort_no_end (Stepped n) e = search rules
+sort_no_end Curved e = search rules
+sort_no_end Branch e = search rules
 
 pub first-no_end : (s : Sort) (x : ℕ) → FirstWord s x → kind_of x ≡ kind.End → ⊥
 first-no_end s x f e = sort_no_end s (sym (first_kind s x f) ∙ e)
 
 -- whether a word is an end word
 pub end_or_not : (k : Kind) → (k ≡ kind.End) ⊎ (k ≡ kind.End → ⊥)
-end_or_not kind.Unknown = inr (λ e. let z : ◌≡◌ {A = ℕ} 0 7 = ap kind_number e in omega arith)
-end_or_not kind.Head = inr (λ e. let z : ◌≡◌ {A = ℕ} 1 7 = ap kind_number e in omega arith)
-end_or_not kind.Bus = inr (λ e. let z : ◌≡◌ {A = ℕ} 2 7 = ap kind_number e in omega arith)
-end_or_not kind.Stepped = inr (λ e. let z : ◌≡◌ {A = ℕ} 3 7 = ap kind_number e in omega arith)
-end_or_not kind.Curved = inr (λ e. let z : ◌≡◌ {A = ℕ} 4 7 = ap kind_number e in omega arith)
-end_or_not kind.Branch = inr (λ e. let z : ◌≡◌ {A = ℕ} 5 7 = ap kind_number e in omega arith)
-end_or_not kind.Amount = inr (λ e. let z : ◌≡◌ {A = ℕ} 6 7 = ap kind_number e in omega arith)
+end_or_not kind.Unknown = inr (λ e. search rules)
+end_or_not kind.Head = inr (λ e. search rules)
+end_or_not kind.Bus = inr (λ e. search rules)
+end_or_not kind.Stepped = inr (λ e. search rules)
+end_or_not kind.Curved = inr (λ e. search rules)
+end_or_not kind.Branch = inr (λ e. search rules)
+end_or_not kind.Amount = inr (λ e. search rules)
 end_or_not kind.End = inl refl
 
 pub next-end : (p : Place) (x : ℕ) → kind_of x ≡ kind.End → next (Next p) x ≡ Done

@@ -1,5 +1,5 @@
 -- When the words of a case are refused, and when they are a lawful case.
-use Rattle.std.specs.Prelude.{◌≡◌, ℕ, ◌+◌, ◌<◌, ◌≤◌, cond, ◌⊎◌, List, [], ◌∷◌, ◌++◌, length, take, ◌==◌, slice_index}
+use Rattle.std.specs.Prelude.{◌≡◌, ℕ, ◌+◌, ◌<◌, ◌≤◌, cond, ◌⊎◌, List, [], ◌∷◌, ◌++◌, length, take, None, Some, Option, ◌==◌, slice_index}
 use Rattle.std.specs.List.{flat_map, AllByRecursion}
 use Rattle.word.specs.Word.{kind_of, payload_of}
 use Rattle.word.specs.Form.{Refused}
@@ -61,9 +61,10 @@ pub record Inside (p : List ℕ) (first : ℕ) : Type 0 where
   pub opens : FirstWord sort first
   pub short : length part < length (amounts_of sort)
 
--- the first word of the record that the words p leave open, 0 if none
-abbrev pub OpenWord : List ℕ → ℕ → Type 0
-OpenWord p first = Inside p first ⊎ ((first ≡ 0) × ((x : ℕ) → Inside p x → ⊥))
+-- the first word of the record that the words p leave open, if they leave one open
+abbrev pub OpenWord : List ℕ → Option ℕ → Type 0
+OpenWord p None = (x : ℕ) → Inside p x → ⊥
+OpenWord p (Some first) = Inside p first
 
 -- at this place an end word stands before the head's counts are met
 pub record EarlyEnd (w : List ℕ) (place : ℕ) : Type 0 where

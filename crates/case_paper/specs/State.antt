@@ -31,13 +31,13 @@ state_place (Next p) = p
 state_place (Amounts sort first read) = place.Amount
 state_place Done = place.End
 
--- the first word of the open record, 0 if none
-abbrev pub open_first : State → ℕ
-open_first Head = 0
-open_first (Counts read) = 0
-open_first (Next p) = 0
-open_first (Amounts sort first read) = first
-open_first Done = 0
+-- the first word of the open record, if one is open
+abbrev pub open_first : State → Option ℕ
+open_first Head = None
+open_first (Counts read) = None
+open_first (Next p) = None
+open_first (Amounts sort first read) = Some first
+open_first Done = None
 
 -- the word is in range
 abbrev pub Ranges : State → ℕ → Type 0

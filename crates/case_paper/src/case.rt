@@ -1,6 +1,5 @@
 // The reader of a case.
-ghost use Rattle.std.specs.Prelude.{◌≡◌, ℕ, ◌+◌, ◌-◌, ◌<◌, ◌≤◌, length, MatchResult, slice_index, slice_set};
-ghost use Rattle.word.specs.declared.place.Place.{Place as ThePlace};
+ghost use Rattle.std.specs.Prelude.{◌≡◌, ℕ, ◌+◌, ◌-◌, ◌<◌, ◌≤◌, length, None, MatchResult, slice_index, slice_set};
 ghost use Rattle.word.specs.declared.fault.WordRefusal.TheVariants.{Kind as KindRefusal};
 ghost use Rattle.case_paper.specs.Case.{rank, amounts_of};
 ghost use Rattle.case_paper.specs.Order.{InOrder};
@@ -27,11 +26,8 @@ pub struct Closed {
 fn closed_by(was: State, is: State) -> Option<Closed>
     ensures { Closes was is result }
 {
-    match was {
-        State::Amounts(sort, first, read) => match is {
-            State::Next(_) => Some(Closed { sort, first, read }),
-            _ => None,
-        },
+    match (was, is) {
+        (State::Amounts(sort, first, read), State::Next(_)) => Some(Closed { sort, first, read }),
         _ => None,
     }
 }
@@ -44,24 +40,12 @@ fn end_in_time(
     words: &[u32],
     counts: &[usize; 4],
 ) -> Result<(), WordFault>
-    requires { (p : ThePlace) → state ≡ State.Next p → 6 ≤ length words.now }
-    ensures { MatchResult result (λ _. Ending state word → Counted counts.now words.now) (λ f. Ending state word × (Counted counts.now words.now → ⊥) × (f.refusal ≡ KindRefusal) × (f.place ≡ place) × (f.first ≡ 0)) }
+    ensures { MatchResult result (λ _. Ending state word → Counted counts.now words.now) (λ f. Ending state word × (Counted counts.now words.now → ⊥) × (f.refusal ≡ KindRefusal) × (f.place ≡ place) × (f.first ≡ None)) }
 {
-    match state {
-        State::Next(_) => match kind_of(word) {
-            Kind::End => {
-                if counts_met(words, counts) {
-                    Ok(())
-                } else {
-                    Err(WordFault {
-                        refusal: WordRefusal::Kind,
-                        place,
-                        first: 0,
-                    })
-                }
-            }
-            _ => Ok(()),
-        },
+    match (state, kind_of(word)) {
+        (State::Next(_), Kind::End) if !counts_met(words, counts) => {
+            Err(WordFault::at(WordRefusal::Kind, place))
+        }
         _ => Ok(()),
     }
 }
@@ -74,12 +58,12 @@ fn complete(
     rows: &[usize; 4],
     counts: &mut [usize; 4],
 ) -> Result<(), RecordFault>
-    requires { (place < length words.now) × ((6 ≤ length words.now) × ((closed.read + 1 ≤ place) × (length (amounts_of closed.sort) ≡ closed.read + 1))) }
+    requires { (place < length words.now) × ((closed.read + 1 ≤ place) × (length (amounts_of closed.sort) ≡ closed.read + 1)) }
     ensures { MatchResult result (λ _. InOrder closed.sort (amounts_read words.now place closed.read) × Rowed rows.now counts.old words.now closed.sort × (counts.new ≡ slice_set counts.old (rank closed.sort) (slice_index counts.old (rank closed.sort) + 1))) (λ f. Unsound closed.sort (amounts_read words.now place closed.read) (Rowed rows.now counts.old words.now closed.sort) ((place - closed.read) - 1) closed.first f × (counts.new ≡ counts.old)) }
 {
     let Closed { sort, first, read } = closed;
     let start = place - read - 1;
-    if !in_order(sort, &words[place - read..place + 1]) {
+    if !in_order(sort, &words[place - read..=place]) {
         return Err(RecordFault::Order {
             place: start,
             first,
@@ -110,14 +94,10 @@ pub fn check_records(words: &[u32], rows: &[usize; 4]) -> Result<(), RecordFault
             complete(closed, place, words, rows, &mut counts)?;
         }
     }
-    let State::Done = state else {
-        return Err(RecordFault::from(WordFault {
-            refusal: WordRefusal::Stops,
-            place: words.len(),
-            first: state.open(),
-        }));
-    };
-    Ok(())
+    match state {
+        State::Done => Ok(()),
+        _ => Err(RecordFault::from(state.fault(WordRefusal::Stops, words.len()))),
+    }
 }
 
 // A checked case, as it stands in its words.

@@ -47,8 +47,8 @@ impl RecordFault {
     {
         match self {
             RecordFault::Word(f) => f.refusal.number(),
-            RecordFault::Order { place: _, first: _ } => 5,
-            RecordFault::Count { place: _, first: _ } => 6,
+            RecordFault::Order { .. } => 5,
+            RecordFault::Count { .. } => 6,
         }
     }
 
@@ -58,8 +58,7 @@ impl RecordFault {
     {
         match self {
             RecordFault::Word(f) => f.place,
-            RecordFault::Order { place, first: _ } => place,
-            RecordFault::Count { place, first: _ } => place,
+            RecordFault::Order { place, .. } | RecordFault::Count { place, .. } => place,
         }
     }
 }
@@ -82,8 +81,7 @@ impl CaseFault {
     {
         match self {
             CaseFault::Record(f) => f.place(),
-            CaseFault::Repeats(row) => row,
-            CaseFault::Lacks(row) => row,
+            CaseFault::Repeats(row) | CaseFault::Lacks(row) => row,
         }
     }
 }

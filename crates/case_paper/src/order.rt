@@ -1,35 +1,23 @@
 // The orders inside a record.
-ghost use Rattle.std.specs.Prelude.{◌≡◌, ℕ, ◌+◌, ◌-◌, ◌≤◌, length, Decides};
-ghost use Rattle.case_paper.specs.Order.{Rises, Keeps, InOrder};
+ghost use Rattle.std.specs.Prelude.{◌≡◌, ℕ, ◌+◌, ◌-◌, ◌<◌, ◌≤ℤ◌, ◌<ℤ◌, length, Decides};
+ghost use Rattle.case_paper.specs.Order.{amount_at, InOrder};
 ghost use Rattle.case_paper.specs.Case.{amounts_of};
 
 use crate::sort::Sort;
 use word::amount::amount;
 
-// The n amounts from place `from` on rise.
-fn rises(xs: &[u32], from: usize, n: usize) -> bool
-    requires { from + n ≤ length xs.now }
-    ensures { Decides result (Rises xs.now from n) }
+// The amounts rise.
+fn rises(xs: &[u32]) -> bool
+    ensures { Decides result ((k : ℕ) → k + 1 < length xs.now → amount_at xs.now k <ℤ amount_at xs.now (k + 1)) }
 {
-    for k in 1..n {
-        if amount(xs[from + (k - 1)]) >= amount(xs[from + k]) {
-            return false;
-        }
-    }
-    true
+    xs.is_sorted_by(|x, y| amount(*x) < amount(*y))
 }
 
 // They never fall.
-fn keeps(xs: &[u32], from: usize, n: usize) -> bool
-    requires { from + n ≤ length xs.now }
-    ensures { Decides result (Keeps xs.now from n) }
+fn keeps(xs: &[u32]) -> bool
+    ensures { Decides result ((k : ℕ) → k + 1 < length xs.now → amount_at xs.now k ≤ℤ amount_at xs.now (k + 1)) }
 {
-    for k in 1..n {
-        if amount(xs[from + (k - 1)]) > amount(xs[from + k]) {
-            return false;
-        }
-    }
-    true
+    xs.is_sorted_by(|x, y| amount(*x) <= amount(*y))
 }
 
 // A record's limits, points and slopes are in order, by its amounts.
@@ -46,14 +34,12 @@ pub fn in_order(sort: Sort, xs: &[u32]) -> bool
 }
 
 fn stepped_in_order(n: usize, xs: &[u32]) -> bool
-    requires { 3 + n + (n - 1) ≤ length xs.now }
+    requires { length xs.now ≡ 3 + n + (n - 1) }
     ensures { Decides result (InOrder (Sort.Stepped n) xs.now) }
 {
     if amount(xs[0]) > amount(xs[1]) {
         return false;
     }
-    if !rises(xs, 3, n) {
-        return false;
-    }
-    keeps(xs, 3 + n, n.saturating_sub(1))
+    let (points, slopes) = xs[3..].split_at(n);
+    rises(points) && keeps(slopes)
 }

@@ -6,7 +6,7 @@ ghost use Rattle.case_paper.specs.State.{after_sort};
 
 use word::kind::{Kind, kind_of, payload};
 use word::place::Place;
-use word::slot::{Slot, is_byte};
+use word::slot::{Slot, is_branch_name, is_byte};
 
 #[derive(Clone, Copy, PartialEq, Eq, Debug)]
 pub enum Sort {
@@ -47,7 +47,7 @@ const BRANCH: [Slot; 6] = [
 pub fn head_slot(read: usize) -> Option<Slot>
     ensures { Due head_amounts read result }
 {
-    if read < 5 { Some(HEAD[read]) } else { None }
+    HEAD.get(read).copied()
 }
 
 impl Sort {
@@ -92,10 +92,10 @@ impl Sort {
         ensures { Due (amounts_of self) read result }
     {
         match self {
-            Sort::Bus => { if read == 0 { Some(POWER) } else { None } }
+            Sort::Bus => (read == 0).then_some(POWER),
             Sort::Stepped(n) => stepped_slot(n, read),
-            Sort::Curved => { if read < 5 { Some(CURVED[read]) } else { None } }
-            Sort::Branch => { if read < 6 { Some(BRANCH[read]) } else { None } }
+            Sort::Curved => CURVED.get(read).copied(),
+            Sort::Branch => BRANCH.get(read).copied(),
         }
     }
 }
@@ -104,14 +104,9 @@ impl Sort {
 fn stepped_slot(n: usize, read: usize) -> Option<Slot>
     ensures { Due (amounts_of (Sort.Stepped n)) read result }
 {
-    if read < 3 {
-        return Some(POWER);
-    }
-    let at = read - 3;
-    if at < n {
-        return Some(POWER);
-    }
-    if n >= 1 && at - n < n - 1 {
+    if read < 3 || read - 3 < n {
+        Some(POWER)
+    } else if read - 3 - n < n.saturating_sub(1) {
         Some(PRICE)
     } else {
         None
@@ -124,10 +119,9 @@ pub fn opens_record(word: u32) -> bool
 {
     let p = payload(word);
     match kind_of(word) {
-        Kind::Bus => is_byte(p),
-        Kind::Stepped => 2 <= p / 256 && p / 256 <= 8 && is_byte(p % 256),
-        Kind::Curved => is_byte(p),
-        Kind::Branch => is_byte(p / 65536) && is_byte(p / 256 % 256) && is_byte(p % 256),
+        Kind::Stepped => (2..=8).contains(&(p / 256)) && is_byte(p % 256),
+        Kind::Bus | Kind::Curved => is_byte(p),
+        Kind::Branch => is_branch_name(p),
         _ => false,
     }
 }

@@ -26,10 +26,7 @@ pub enum State {
 fn fills(slot: Option<Slot>, word: u32) -> bool
     ensures { Decides result (MatchOption slot ⊥ (λ s. InRange s word)) }
 {
-    match slot {
-        Some(slot) => slot.holds(word),
-        None => false,
-    }
+    slot.is_some_and(|slot| slot.holds(word))
 }
 
 impl State {
@@ -38,24 +35,34 @@ impl State {
     {
         match self {
             State::Head => Place::Head,
-            State::Counts(_) => Place::Amount,
+            State::Counts(_) | State::Amounts(..) => Place::Amount,
             State::Next(p) => p,
-            State::Amounts(_, _, _) => Place::Amount,
             State::Done => Place::End,
         }
     }
 
-    // The first word of the open record, 0 if none.
-    pub fn open(self) -> u32
+    // The first word of the open record, if one is open.
+    pub fn open(self) -> Option<u32>
         ensures { result ≡ open_first self }
     {
         match self {
-            State::Amounts(_, first, _) => first,
-            _ => 0,
+            State::Amounts(_, first, _) => Some(first),
+            _ => None,
         }
     }
 
-    // Whether a word whose kind may stand is in range.
+    // A refusal at a place, with the record that is open.
+    pub fn fault(self, refusal: WordRefusal, place: usize) -> WordFault
+        ensures { result ≡ record { refusal = refusal; place = place; first = open_first self } }
+    {
+        WordFault {
+            refusal,
+            place,
+            first: self.open(),
+        }
+    }
+
+    // Whether a word whose kind may stand is in range. Each step asks for `Good`: an enum bears no invariant.
     fn has_range(self, word: u32) -> bool
         requires { Good self }
         ensures { Decides result (Ranges self word) }
@@ -86,10 +93,14 @@ impl State {
             }
             (State::Next(_), Kind::End) => State::Done,
             (State::Next(_), _) => State::Amounts(Sort::of(word), word, 0),
-            (State::Amounts(sort, first, read), _) => match sort.slot(read + 1) {
-                Some(_) => State::Amounts(sort, first, read + 1),
-                None => State::Next(sort.place_after()),
-            },
+            (State::Amounts(sort, first, read), _) => {
+                let read = read + 1;
+                if sort.slot(read).is_some() {
+                    State::Amounts(sort, first, read)
+                } else {
+                    State::Next(sort.place_after())
+                }
+            }
             (State::Done, _) => State::Done,
         };
     }
@@ -99,27 +110,14 @@ impl State {
         requires { Good self.old }
         ensures { MatchResult result (λ _. Takes self.old word × (self.new ≡ next self.old word)) (λ f. (self.new ≡ self.old) × Missteps self.old word f.refusal × (f.place ≡ place) × (f.first ≡ open_first self.old)) }
     {
-        let first = self.open();
-        if let State::Done = *self {
-            return Err(WordFault {
-                refusal: WordRefusal::Follows,
-                place,
-                first,
-            });
+        if matches!(*self, State::Done) {
+            return Err(self.fault(WordRefusal::Follows, place));
         }
         if !may_stand(self.place(), kind_of(word)) {
-            return Err(WordFault {
-                refusal: WordRefusal::Kind,
-                place,
-                first,
-            });
+            return Err(self.fault(WordRefusal::Kind, place));
         }
         if !self.has_range(word) {
-            return Err(WordFault {
-                refusal: WordRefusal::Range,
-                place,
-                first,
-            });
+            return Err(self.fault(WordRefusal::Range, place));
         }
         self.advance(word);
         Ok(())

@@ -1,9 +1,9 @@
 -- Runs of amounts within a range, and the words of a head, a name and an end.
-use Rattle.std.proofs.Common.{◌≡◌, ℕ, zero, suc, ◌+◌, ◌*◌, ◌<◌, List, [], ◌∷◌, ◌++◌, map, length, get_or, ℤ, pos, ◌≤ℤ◌, sym, refl, ap, ◌∙◌, subst, inl, inr, arith}
+use Rattle.std.proofs.Common.{rules, ◌≡◌, ℕ, zero, suc, ◌+◌, ◌*◌, ◌<◌, List, [], ◌∷◌, ◌++◌, map, length, get_or, ℤ, pos, ◌≤ℤ◌, sym, refl, ap, ◌∙◌, subst, inl, inr, arith}
 use Rattle.std.specs.List.{AllByRecursion}
 use Rattle.std.proofs.lemmas.List.{get_or-append-add, get_or_past}
 use Rattle.std.proofs.lemmas.Bool.{cases_lt}
-use Rattle.word.specs.Word.{kind_number, amount_of, word_of, amount_word}
+use Rattle.word.specs.Word.{amount_of, word_of, amount_word}
 use Rattle.word.specs.Laws.{Short}
 use Rattle.word.specs.Slot.{Fits, Matches}
 use Rattle.word.specs.Run.{in_turn}
@@ -14,16 +14,16 @@ use Rattle.word.proofs.Words.{word_at, kind_word, amount_same, amount_back, amou
 use Rattle.word.proofs.Columns.{value_in, value_out}
 
 pub head_known : kind.Head ≡ kind.Unknown → ⊥
-head_known e = let z : ◌≡◌ {A = ℕ} 1 0 = ap kind_number e in omega arith
+head_known e = search rules
 
 pub bus_known : kind.Bus ≡ kind.Unknown → ⊥
-bus_known e = let z : ◌≡◌ {A = ℕ} 2 0 = ap kind_number e in omega arith
+bus_known e = search rules
 
 pub branch_known : kind.Branch ≡ kind.Unknown → ⊥
-branch_known e = let z : ◌≡◌ {A = ℕ} 5 0 = ap kind_number e in omega arith
+branch_known e = search rules
 
 pub end_known : kind.End ≡ kind.Unknown → ⊥
-end_known e = let z : ◌≡◌ {A = ℕ} 7 0 = ap kind_number e in omega arith
+end_known e = search rules
 
 pub head_word : (h x : ℕ) → Fits (Head h) x → x ≡ word_of kind.Head h
 head_word h x f = word_at x kind.Head h f.0 head_known f.1

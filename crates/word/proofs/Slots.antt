@@ -73,9 +73,6 @@ module _ (ss : List Slot) (w : List ℕ) (i : ℕ) (v : Possible ss) (m : Matche
       let t : take i w ≡ w = take_all i w (omega arith) in
       (sym e, subst (λ (p : List ℕ). Open (Matches ss) p) t (front_open (omega arith) h))
 
-  pub refused_follows : length ss ≡ i → i < length w → Refused (Matches ss) w Follows i
-  refused_follows e h = (h, subst (λ (s : List Slot). Matches s (take i w)) (take_all i ss (omega arith)) m)
-
   module _ (d : Slot) (h : i < length w) (k : i < length ss) where
     fits_here : (x : ℕ) → Begins (Matches ss) (take i w ++ (x ∷ [])) → Fits (get_or ss i d) x
     fits_here x b =

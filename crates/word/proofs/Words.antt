@@ -1,7 +1,6 @@
 -- The round trip of a word.
-use Rattle.std.proofs.Common.{◌≡◌, ℕ, ◌+◌, ◌*◌, ◌/◌, ◌%◌, ◌^◌, ◌<◌, [], ◌∷◌, ℤ, pos, negsuc, sym, refl, ap, ◌∙◌, inl, inr, arith, w64, SFits, of_z}
+use Rattle.std.proofs.Common.{rules, ◌≡◌, ℕ, ◌+◌, ◌*◌, ◌/◌, ◌%◌, ◌^◌, ◌<◌, [], ◌∷◌, ℤ, pos, negsuc, sym, refl, ap, ◌∙◌, arith, w64, SFits, of_z}
 use Rattle.std.proofs.lemmas.Int.{ints}
-use Rattle.std.proofs.lemmas.Bool.{cases_eq}
 use Rattle.std.proofs.lemmas.Bool.Decides.{nat_tests}
 use Rattle.word.specs.Word.{kind_number, kind_numbered, kind_of, payload_of, amount_of, word_of, signed_of, payload_for, amount_word, of_bytes, bytes_of}
 use Rattle.word.specs.Laws.{Short, WordRoundTrip}
@@ -29,29 +28,7 @@ payload_word k p h = omega arith
 
 -- the number of a kind that is known
 number_numbered : (n : ℕ) → (kind_numbered n ≡ Unknown → ⊥) → kind_number (kind_numbered n) ≡ n
-number_numbered n h =
-    elim (cases_eq n 1) [
-      | inl e ↦ rw e
-      | inr n1 ↦ elim (cases_eq n 2) [
-        | inl e ↦ rw e
-        | inr n2 ↦ elim (cases_eq n 3) [
-          | inl e ↦ rw e
-          | inr n3 ↦ elim (cases_eq n 4) [
-            | inl e ↦ rw e
-            | inr n4 ↦ elim (cases_eq n 5) [
-              | inl e ↦ rw e
-              | inr n5 ↦ elim (cases_eq n 6) [
-                | inl e ↦ rw e
-                | inr n6 ↦ elim (cases_eq n 7) [
-                  | inl e ↦ rw e
-                  | inr n7 ↦ absurd (h (grind (arith, nat_tests)))
-                ]
-              ]
-            ]
-          ]
-        ]
-      ]
-    ]
+number_numbered n h = grind (arith, nat_tests)
 
 pub word_kind : (w : ℕ) → (kind_of w ≡ Unknown → ⊥) → word_of (kind_of w) (payload_of w) ≡ w
 unfolding kind_of
@@ -63,16 +40,6 @@ word_is w k e h = sym (word_kind w (λ u. h (sym e ∙ u))) ∙ ap (λ (j : Kind
 
 pub word_at : (w : ℕ) (k : Kind) (p : ℕ) → kind_of w ≡ k → (k ≡ Unknown → ⊥) → payload_of w ≡ p → w ≡ word_of k p
 word_at w k p e h q = word_is w k e h ∙ ap (word_of k) q
-
-pub number_small : (k : Kind) → kind_number k < 8
-number_small Unknown = omega arith
-number_small Head = omega arith
-number_small Bus = omega arith
-number_small Stepped = omega arith
-number_small Curved = omega arith
-number_small Branch = omega arith
-number_small Amount = omega arith
-number_small End = omega arith
 
 payload_short : (z : ℤ) → payload_for z < 2 ^ 28
 payload_short (pos n) = omega arith
@@ -90,13 +57,10 @@ amount_kind z = kind_word Amount (payload_for z) (payload_short z)
 signed_back : (p : ℕ) → p < 2 ^ 28 → payload_for (signed_of p) ≡ p
 signed_back p h = grind (arith, ints, nat_tests)
 
-amount_known : Amount ≡ Unknown → ⊥
-amount_known e = let z : ◌≡◌ {A = ℕ} 6 0 = ap kind_number e in omega arith
-
 pub amount_same : (w : ℕ) → kind_of w ≡ Amount → amount_word (amount_of w) ≡ w
 unfolding amount_of amount_word
 amount_same w e =
-    ap (word_of Amount) (signed_back (payload_of w) (omega arith)) ∙ sym (word_is w Amount e amount_known)
+    ap (word_of Amount) (signed_back (payload_of w) (omega arith)) ∙ sym (word_is w Amount e (λ k. search rules))
 
 -- the low 28 bits of a number of 64
 pub low_bits : (z : ℤ) → SFits w64 z → of_z w64 z % 2 ^ 28 ≡ payload_for z

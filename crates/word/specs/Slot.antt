@@ -21,11 +21,15 @@ slot_kind End = kind.End
 abbrev pub Byte : ℕ → Type 0
 Byte n = (1 ≤ n) × (n ≤ 255)
 
+-- a branch's name: its circuit, its from bus and its to bus
+abbrev pub BranchName : ℕ → Type 0
+BranchName n = Byte (n / 65536) × Byte (n / 256 % 256) × Byte (n % 256)
+
 -- the payload or amount of the word is in the slot's range
 abbrev pub InRange : Slot → ℕ → Type 0
 InRange (Head payload) x = payload_of x ≡ payload
 InRange Bus x = Byte (payload_of x)
-InRange Branch x = Byte (payload_of x / 65536) × Byte (payload_of x / 256 % 256) × Byte (payload_of x % 256)
+InRange Branch x = BranchName (payload_of x)
 InRange (Amount least most) x = (least ≤ℤ amount_of x) × (amount_of x ≤ℤ most)
 InRange End x = payload_of x ≡ 0
 

@@ -5,6 +5,7 @@ ghost use Rattle.word.specs.Word.{amount_of, amount_word};
 use crate::kind::{Kind, word_of};
 
 // The payload as a signed number: its top bit is moved to the word's, and back with the sign.
+#[tactic(auto, unfolding(crate::specs::Word::amount_of))]
 pub fn amount(word: u32) -> i64
     ensures { result ≡ amount_of word }
 {

@@ -1,5 +1,6 @@
 // Columns of amounts in a paper's words.
-ghost use Rattle.std.specs.Prelude.{◌≡◌};
+ghost use Rattle.std.specs.Prelude.{◌≡◌, pos, MatchOption};
+ghost use Rattle.word.specs.Word.{amount_of};
 ghost use Rattle.word.specs.Column.{value_of};
 
 use crate::amount::amount;
@@ -14,23 +15,24 @@ pub struct WordColumn<'a> {
     pub stride: usize,
 }
 
+impl<'a> WordColumn<'a> {
+    // The row's word, or nothing past the count or the last word.
+    fn word(&self, row: usize) -> Option<u32>
+        ensures { MatchOption result (value_of self.now row ≡ pos 0) (λ w. value_of self.now row ≡ amount_of w) }
+    {
+        if row >= self.count {
+            return None;
+        }
+        let offset = self.stride.checked_mul(row)?;
+        let place = self.start.checked_add(offset)?;
+        self.words.get(place).copied()
+    }
+}
+
 impl<'a> Column for WordColumn<'a> {
     ghost value = { value_of };
 
     fn at(&self, row: usize) -> i64 {
-        if row >= self.count {
-            return 0;
-        }
-        let Some(offset) = self.stride.checked_mul(row) else {
-            return 0;
-        };
-        let Some(place) = self.start.checked_add(offset) else {
-            return 0;
-        };
-        if place < self.words.len() {
-            amount(self.words[place])
-        } else {
-            0
-        }
+        self.word(row).map_or(0, amount)
     }
 }

@@ -1,5 +1,5 @@
 // Why a word of a paper is refused.
-ghost use Rattle.std.specs.Prelude.{◌≡◌};
+ghost use Rattle.std.specs.Prelude.{◌≡◌, None};
 ghost use Rattle.word.specs.Fault.{refusal_number};
 
 #[derive(Clone, Copy, PartialEq, Eq, Debug)]
@@ -28,10 +28,23 @@ impl WordRefusal {
     }
 }
 
-// The place counts the words from 0; `first` is the first word of the open record, or 0.
+// The place counts the words from 0; `first` is the first word of the open record, if one is open.
 #[derive(Clone, Copy, PartialEq, Eq, Debug)]
 pub struct WordFault {
     pub refusal: WordRefusal,
     pub place: usize,
-    pub first: u32,
+    pub first: Option<u32>,
+}
+
+impl WordFault {
+    // A refusal at a place where no record is open.
+    pub fn at(refusal: WordRefusal, place: usize) -> WordFault
+        ensures { result ≡ record { refusal = refusal; place = place; first = None } }
+    {
+        WordFault {
+            refusal,
+            place,
+            first: None,
+        }
+    }
 }

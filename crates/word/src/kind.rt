@@ -4,15 +4,15 @@ ghost use Rattle.word.specs.Word.{kind_number, kind_of, payload_of, word_of};
 
 #[derive(Clone, Copy, PartialEq, Eq, Debug)]
 pub enum Kind {
-    // no word of a paper has it
-    Unknown,
-    Head,
-    Bus,
-    Stepped,
-    Curved,
-    Branch,
-    Amount,
-    End,
+    // no word of a paper has it; but any word's kind is read, and the table of places has its column
+    Unknown = 0,
+    Head = 1,
+    Bus = 2,
+    Stepped = 3,
+    Curved = 4,
+    Branch = 5,
+    Amount = 6,
+    End = 7,
 }
 
 impl Kind {
@@ -20,19 +20,12 @@ impl Kind {
     pub fn number(self) -> u32
         ensures { result ≡ kind_number self }
     {
-        match self {
-            Kind::Unknown => 0,
-            Kind::Head => 1,
-            Kind::Bus => 2,
-            Kind::Stepped => 3,
-            Kind::Curved => 4,
-            Kind::Branch => 5,
-            Kind::Amount => 6,
-            Kind::End => 7,
-        }
+        self as u32
     }
 }
 
+// The kind by the top four bits: a match, since no cast leads back from a number.
+#[tactic(auto, unfolding(crate::specs::Word::kind_of))]
 pub fn kind_of(word: u32) -> Kind
     ensures { result ≡ kind_of word }
 {
@@ -48,6 +41,7 @@ pub fn kind_of(word: u32) -> Kind
     }
 }
 
+#[tactic(auto, using(std::proofs::lemmas::Nat::and_mask))]
 pub fn payload(word: u32) -> u32
     ensures { result ≡ payload_of word }
 {

@@ -14,20 +14,12 @@ pub fn admit_all(words: &[u32], runs: &[Run]) -> Result<(), WordFault>
 {
     for (place, word) in words.iter().enumerate() {
         let Some(slot) = slot_at(runs, place) else {
-            return Err(WordFault {
-                refusal: WordRefusal::Follows,
-                place,
-                first: 0,
-            });
+            return Err(WordFault::at(WordRefusal::Follows, place));
         };
         slot.admit(place, *word)?;
     }
-    if let Some(_) = slot_at(runs, words.len()) {
-        return Err(WordFault {
-            refusal: WordRefusal::Stops,
-            place: words.len(),
-            first: 0,
-        });
+    if slot_at(runs, words.len()).is_some() {
+        return Err(WordFault::at(WordRefusal::Stops, words.len()));
     }
     Ok(())
 }

@@ -16,11 +16,7 @@ impl Run {
     pub fn one(slot: Slot) -> Run
         ensures { result ≡ record { count = 1; slot = slot; other = slot } }
     {
-        Run {
-            count: 1,
-            slot,
-            other: slot,
-        }
+        Run::many(1, slot)
     }
 
     pub fn many(count: usize, slot: Slot) -> Run

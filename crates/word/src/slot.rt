@@ -1,6 +1,6 @@
 // What is due at one place of a paper.
-ghost use Rattle.std.specs.Prelude.{◌≡◌, Decides, MatchResult};
-ghost use Rattle.word.specs.Slot.{slot_place, Byte, InRange, Fits, Misfits};
+ghost use Rattle.std.specs.Prelude.{◌≡◌, Decides, MatchResult, None};
+ghost use Rattle.word.specs.Slot.{slot_place, Byte, BranchName, InRange, Fits, Misfits};
 
 use crate::amount::amount;
 use crate::fault::{WordFault, WordRefusal};
@@ -24,7 +24,14 @@ pub enum Slot {
 pub fn is_byte(n: u32) -> bool
     ensures { Decides result (Byte n) }
 {
-    1 <= n && n <= 255
+    (1..=255).contains(&n)
+}
+
+// A branch's name is three: its circuit and its two buses, a byte each.
+pub fn is_branch_name(payload: u32) -> bool
+    ensures { Decides result (BranchName payload) }
+{
+    is_byte(payload / 65536) && is_byte(payload / 256 % 256) && is_byte(payload % 256)
 }
 
 impl Slot {
@@ -48,32 +55,21 @@ impl Slot {
         match self {
             Slot::Head(h) => p == h,
             Slot::Bus => is_byte(p),
-            Slot::Branch => is_byte(p / 65536) && is_byte(p / 256 % 256) && is_byte(p % 256),
-            Slot::Amount(least, most) => {
-                let x = amount(word);
-                least <= x && x <= most
-            }
+            Slot::Branch => is_branch_name(p),
+            Slot::Amount(least, most) => (least..=most).contains(&amount(word)),
             Slot::End => p == 0,
         }
     }
 
     // The word at `place` fits the slot, or is refused.
     pub fn admit(self, place: usize, word: u32) -> Result<(), WordFault>
-        ensures { MatchResult result (λ _. Fits self word) (λ f. Misfits self word f.refusal × (f.place ≡ place) × (f.first ≡ 0)) }
+        ensures { MatchResult result (λ _. Fits self word) (λ f. Misfits self word f.refusal × (f.place ≡ place) × (f.first ≡ None)) }
     {
         if !may_stand(self.place(), kind_of(word)) {
-            return Err(WordFault {
-                refusal: WordRefusal::Kind,
-                place,
-                first: 0,
-            });
+            return Err(WordFault::at(WordRefusal::Kind, place));
         }
         if !self.holds(word) {
-            return Err(WordFault {
-                refusal: WordRefusal::Range,
-                place,
-                first: 0,
-            });
+            return Err(WordFault::at(WordRefusal::Range, place));
         }
         Ok(())
     }

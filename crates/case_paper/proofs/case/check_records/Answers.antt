@@ -1,27 +1,18 @@
-use Rattle.std.proofs.Common.{◌≡◌, ℕ, ◌+◌, List, length, sym, refl, subst, arith}
+use Rattle.std.proofs.Common.{None, ◌≡◌, ℕ, ◌+◌, List, length, sym, refl, subst, arith}
 use Rattle.std.proofs.lemmas.Result.{err_from_is_err_and}
 use Rattle.case_paper.specs.declared.state.State.{State}
-use Rattle.case_paper.proofs.Progress.{Progress, progress_none, long, refused_early, refused_misstep, refused_stops, closed_long, closed_room, closed_words, refused_closed, progress_closed, progress_same, progress_all, refused_as}
-use Rattle.word.specs.declared.fault.WordRefusal.TheVariants.{Stops, Kind}
+use Rattle.case_paper.proofs.Progress.{Progress, refused_early, refused_misstep, refused_stops, closed_long, closed_room, refused_closed, progress_closed, progress_same, progress_all, refused_as}
+use Rattle.word.specs.declared.fault.WordRefusal.TheVariants.{Kind}
 use Rattle.case_paper.specs.State.{open_first}
 use Rattle.case_paper.proofs.case.check_records.Goals as goal
 use Rattle.case_paper.proofs.case.check_records.Goals.{in-Some+in_ok-complete, in_default}
-
-pub loop-place-init : goal.loop-place-init
-loop-place-init c = progress_none c.args.rows.now c.args.words.now
-
-pub end_in_time-requires : goal.end_in_time-requires
-end_in_time-requires c = long c.args.rows.now c.args.words.now c.loop-place.place c.loop-place.state c.loop-place.counts c.loop-place.invariant
-
-pub step-requires : goal.step-requires
-step-requires c = c.loop-place.invariant.got.good
 
 pub returns-in_err-end_in_time : goal.returns-in_err-end_in_time
 returns-in_err-end_in_time c =
     let p = err_from_is_err_and c.from_residual.result c.from_residual.ensures.1 in
     let f = c.in_err-end_in_time.ensures in
     rw (p.1, p.2)
-    (refused_as c.args.rows.now c.args.words.now c.in_err-end_in_time.field-0.0 Kind c.loop-place.place 0 f.2 f.3 f.4
+    (refused_as c.args.rows.now c.args.words.now c.in_err-end_in_time.field-0.0 Kind c.loop-place.place None f.2 f.3 f.4
     (refused_early c.args.rows.now c.args.words.now c.loop-place.place c.loop-place.state c.loop-place.counts c.loop-place.invariant (omega arith) f.0 f.1))
 
 pub returns-in_err-step : goal.returns-in_err-step
@@ -39,11 +30,8 @@ complete-requires c =
     let v = c.in-Some.closed in (
       omega arith,
       (
-        closed_words c.args.rows.now c.args.words.now c.loop-place.place c.loop-place.state c.step.new.self c.loop-place.counts c.loop-place.invariant (omega arith) t.0 t.1 v.sort v.first v.read d.0 d.1.0 d.1.1,
-        (
-          closed_room c.args.rows.now c.args.words.now c.loop-place.place c.loop-place.state c.step.new.self c.loop-place.counts c.loop-place.invariant (omega arith) t.0 t.1 v.sort v.first v.read d.0 d.1.0 d.1.1,
-          closed_long c.args.rows.now c.args.words.now c.loop-place.place c.loop-place.state c.step.new.self c.loop-place.counts c.loop-place.invariant (omega arith) t.0 t.1 v.sort v.first v.read d.0 d.1.0 d.1.1,
-        ),
+        closed_room c.args.rows.now c.args.words.now c.loop-place.place c.loop-place.state c.step.new.self c.loop-place.counts c.loop-place.invariant (omega arith) t.0 t.1 v.sort v.first v.read d.0 d.1.0 d.1.1,
+        closed_long c.args.rows.now c.args.words.now c.loop-place.place c.loop-place.state c.step.new.self c.loop-place.counts c.loop-place.invariant (omega arith) t.0 t.1 v.sort v.first v.read d.0 d.1.0 d.1.1,
       ),
     )
 
@@ -79,11 +67,10 @@ pub returns-in_default-state : goal.returns-in_default-state
 returns-in_default-state c =
     let e : c.loop-place.place ≡ length c.args.words.now = omega arith in
     let f = refused_stops c.args.rows.now c.args.words.now c.loop-place.place c.loop-place.state c.loop-place.counts c.loop-place.invariant e c.in_default-state.not-Done in
-    rw c.from.ensures
-    (refused_as c.args.rows.now c.args.words.now _ Stops c.loop-place.place (open_first c.loop-place.state) refl (sym e) c.open.ensures f)
+    rw (c.from.ensures, c.fault.ensures) (rw e at f)
 
-pub returns : goal.returns
-returns c =
+pub returns-in-Done : goal.returns-in-Done
+returns-in-Done c =
     progress_all c.args.rows.now c.args.words.now c.loop-place.place c.loop-place.counts
     (subst (λ (s : State). Progress c.args.rows.now c.args.words.now c.loop-place.place s c.loop-place.counts) c.in-Done.is c.loop-place.invariant)
     (omega arith)

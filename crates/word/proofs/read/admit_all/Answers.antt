@@ -1,23 +1,11 @@
-use Rattle.std.proofs.Common.{◌≡◌, length, get_or, take, refl, subst, add-one, arith}
-use Rattle.std.proofs.lemmas.List.{take_all}
+use Rattle.std.proofs.Common.{◌≡◌, length, get_or, refl, subst, rules, add-one, arith}
 use Rattle.std.proofs.lemmas.Result.{err_from_is_err_and}
 use Rattle.word.specs.Slot.{Fits, Misfits}
 use Rattle.word.specs.Run.{slots_of}
 use Rattle.word.specs.declared.slot.Slot.{Slot}
 use Rattle.word.specs.declared.slot.Slot.TheVariants.{End}
-use Rattle.word.proofs.Slots.{matches_more, refused_stops, refused_follows, refused_misfit}
+use Rattle.word.proofs.Slots.{matches_more, refused_stops, refused_misfit}
 use Rattle.word.proofs.read.admit_all.Goals as goal
-
-pub loop-place-init : goal.loop-place-init
-loop-place-init c = (omega arith, tt)
-
-pub returns-in_default : goal.returns-in_default
-returns-in_default c =
-    let past = c.in_default.ensures in (
-      refused_follows (slots_of c.args.runs.now) c.args.words.now c.loop-place.place c.requires c.loop-place.invariant.1
-          (omega arith) (omega arith),
-      refl,
-    )
 
 pub returns-in_err-admit : goal.returns-in_err-admit
 returns-in_err-admit c =
@@ -39,18 +27,9 @@ loop-place-preserved c =
           due.0 (omega arith) f),
     )
 
-pub returns-in-Some-slot_at : goal.returns-in-Some-slot_at
-returns-in-Some-slot_at c =
-    let due = c.in-Some-slot_at.ensures in
-    let e : c.loop-place.place ≡ length c.args.words.now = omega arith in (
-      rw e at (refused_stops (slots_of c.args.runs.now) c.args.words.now c.loop-place.place c.requires c.loop-place.invariant.1
-          (omega arith) (omega arith)),
-      refl,
-    )
-
-pub returns : goal.returns
-returns c =
-    let past = c.in_default-slot_at.ensures in
-    let s : take c.loop-place.place (slots_of c.args.runs.now) ≡ slots_of c.args.runs.now = take_all _ _ (omega arith) in
-    let w : take c.loop-place.place c.args.words.now ≡ c.args.words.now = take_all _ _ (omega arith) in
-    rw (s, w) at c.loop-place.invariant.1
+pub returns-then-is_some : goal.returns-then-is_some
+returns-then-is_some c =
+    let e : c.loop-place.place ≡ length c.args.words.now = omega arith in
+    let due = c.slot_at-2.ensures in
+    let at = c.at-then-is_some.ensures in
+    rw at (rw e at (refused_stops (slots_of c.args.runs.now) c.args.words.now c.loop-place.place c.requires c.loop-place.invariant.1 (omega arith) (search rules)), refl)

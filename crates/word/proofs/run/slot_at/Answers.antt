@@ -6,9 +6,6 @@ use Rattle.word.specs.declared.slot.Slot.{Slot}
 use Rattle.word.proofs.Runs.{due_here, due_later}
 use Rattle.word.proofs.run.slot_at.Goals as goal
 
-pub loop-run-init : goal.loop-run-init
-loop-run-init c o d = d
-
 pub returns-then-left-run : goal.returns-then-left-run
 returns-then-left-run c =
     let d = due_here c.args.runs.now c.loop-run.run-index c.loop-run.left _ c.loop-run-test.true c.if-left-run.true in

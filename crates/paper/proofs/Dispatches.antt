@@ -1,30 +1,34 @@
 -- The places of a dispatch say what its words say; and a dispatch written out.
-use Rattle.std.proofs.Common.{◌≡◌, ℕ, zero, suc, ◌+◌, ◌≤◌, List, [], ◌∷◌, ◌++◌, map, length, get_or, take, drop, set, replicate, ℤ, pos, negsuc, sym, refl, ap, ◌∙◌, subst, arith}
-use Rattle.std.specs.List.{AllByRecursion}
+use Rattle.std.proofs.Common.{◌≡◌, ℕ, ◌+◌, ◌≤◌, List, [], ◌∷◌, ◌++◌, map, length, get_or, take, drop, set, replicate, ℤ, pos, negsuc, sym, refl, ap, ◌∙◌, subst, add-one, ◌<◌, arith}
 use Rattle.std.proofs.lemmas.List.{length-append, length-map, length-replicate, append_assoc, ext_get_or}
 use Rattle.std.proofs.ByRecursion.{All-weaker}
 use Rattle.std.proofs.lemmas.Int.{ints}
 use Rattle.word.specs.Word.{amount_of, word_of, amount_word}
 use Rattle.word.specs.Laws.{Short}
+use Rattle.word.specs.Fault.{RefusedWord}
+use Rattle.word.specs.declared.fault.WordFault.{WordFault}
 use Rattle.word.specs.Slot.{Matches}
-use Rattle.word.specs.Run.{slots_of, in_turn}
-use Rattle.word.specs.Column.{column_value}
+use Rattle.word.specs.Run.{in_turn}
+use Rattle.word.specs.Column.{column_value, value_of}
 use Rattle.word.specs.declared.kind.Kind.TheVariants as kind
-use Rattle.word.specs.declared.run.Run.{Run}
+use Rattle.word.specs.declared.slot.Slot.{Slot}
 use Rattle.word.specs.declared.slot.Slot.TheVariants.{Head, End}
 use Rattle.word.proofs.Fillings.{head_word, head_fits, end_fits, last_word, run_words, words_run, column_run}
 use Rattle.word.proofs.Slots.{matches_join, matches_parts}
 use Rattle.paper.specs.Range.{Power, Angle, power_slot, angle_slot}
-use Rattle.paper.specs.Dispatch.{Dispatch, dispatch_words, InUnits, LawfulDispatch, DispatchForm}
+use Rattle.paper.specs.Dispatch.{Dispatch, dispatch_words, InUnits, LawfulDispatch, DispatchForm, ReadsDispatch}
+use Rattle.paper.specs.declared.dispatch.DispatchPaper.{DispatchPaper}
 use Rattle.paper.specs.Write.{dispatch_of, ReadsBack}
-use Rattle.paper.proofs.Layouts.{one, many, power_short, angle-short, form_exact}
-use Rattle.paper.proofs.Tables.{Begun, begun-run, begun-one}
+use Rattle.paper.proofs.Layouts.{Layout, refused, all_same, power_short, angle-short, form_exact}
+use Rattle.std.proofs.lemmas.List.{set_split}
+use Rattle.std.proofs.Math.Seq.{paste}
+use Rattle.std.proofs.lemmas.List.Edits.{length-paste, paste_all, paste-paste}
 
-abbrev pub dispatch_runs : ℕ → ℕ → List Run
-dispatch_runs n m = one (Head 2) ∷ many n power_slot ∷ many m angle_slot ∷ one End ∷ []
+abbrev pub dispatch_slots : ℕ → ℕ → List Slot
+dispatch_slots n m = Head 2 ∷ (in_turn n power_slot power_slot ++ (in_turn m angle_slot angle_slot ++ (End ∷ [])))
 
 -- words that fit the places are those of a lawful dispatch
-pub dispatch-to : (n m : ℕ) (w : List ℕ) → Matches (slots_of (dispatch_runs n m)) w → DispatchForm n m w
+dispatch-to : (n m : ℕ) (w : List ℕ) → Matches (dispatch_slots n m) w → DispatchForm n m w
 dispatch-to n m [] s = absurd s
 dispatch-to n m (h ∷ w) s =
     let eh = head_word 2 h s.0 in
@@ -39,61 +43,74 @@ dispatch-to n m (h ∷ w) s =
       (λ i. eh i ∷ (p.whole ∙ (λ j. x.0 j ++ (q.whole ∙ (λ k. y.0 k ++ l k)) j)) i),
     )
 
-pub dispatch-from : (n m : ℕ) (w : List ℕ) → DispatchForm n m w → Matches (slots_of (dispatch_runs n m)) w
+dispatch-from : (n m : ℕ) (w : List ℕ) → DispatchForm n m w → Matches (dispatch_slots n m) w
 dispatch-from n m w (d, l, e) =
     let u = l.units in
     let x = words_run (negsuc 99999999) (pos 100000000) power_short d.powers u.powers in
     let y = words_run (negsuc 3199999) (pos 3200000) angle-short d.angles u.angles in
     let x' = subst (λ (k : ℕ). Matches (in_turn k power_slot power_slot) (map amount_word d.powers)) l.machines x in
     let y' = subst (λ (k : ℕ). Matches (in_turn k angle_slot angle_slot) (map amount_word d.angles)) l.buses y in
-    subst (λ (v : List ℕ). Matches (slots_of (dispatch_runs n m)) v) (sym e) (
+    subst (λ (v : List ℕ). Matches (dispatch_slots n m) v) (sym e) (
       head_fits 2 (omega arith),
       matches_join (in_turn n power_slot power_slot) (in_turn m angle_slot angle_slot ++ (End ∷ [])) (map amount_word d.powers) (map amount_word d.angles ++ (word_of kind.End 0 ∷ [])) x'
           (matches_join (in_turn m angle_slot angle_slot) (End ∷ []) (map amount_word d.angles) (word_of kind.End 0 ∷ []) y' (end_fits, tt)),
     )
 
-zeros : ℕ → List ℤ
-zeros n = replicate n (pos 0)
-
-zeros_in : (P : ℤ → Type 0) → P (pos 0) → (n : ℕ) → AllByRecursion P (zeros n)
-unfolding zeros
-zeros_in P p zero = tt
-zeros_in P p (suc n) = (p, zeros_in P p n)
-
-pub dispatch-some : (n m : ℕ) → (w : List ℕ) × DispatchForm n m w
-unfolding zeros
+dispatch-some : (n m : ℕ) → (w : List ℕ) × DispatchForm n m w
 dispatch-some n m =
-    let d : Dispatch = dispatch_of (zeros n) (zeros m) in (
+    let d : Dispatch = dispatch_of (replicate n (pos 0)) (replicate m (pos 0)) in (
       dispatch_words d,
       (
         d,
         record {
           machines = length-replicate n (pos 0);
           buses = length-replicate m (pos 0);
-          units = record { powers = zeros_in Power (omega (arith, ints), omega (arith, ints)) n; angles = zeros_in Angle (omega (arith, ints), omega (arith, ints)) m };
+          units = record {
+            powers = all_same Power (pos 0) (omega (arith, ints), omega (arith, ints)) n;
+            angles = all_same Angle (pos 0) (omega (arith, ints), omega (arith, ints)) m;
+          };
         },
         refl,
       ),
     )
 
-pub words_length : (d : Dispatch) → length (dispatch_words d) ≡ length d.powers + length d.angles + 2
+pub dispatch_layout : (n m : ℕ) → Layout (DispatchForm n m) (dispatch_slots n m)
+dispatch_layout n m = record { to = dispatch-to n m; from = dispatch-from n m; some = dispatch-some n m }
+
+words_length : (d : Dispatch) → length (dispatch_words d) ≡ length d.powers + length d.angles + 2
 words_length d = simp (length-append, length-map) (omega arith)
 
-pub dispatch-long : (n m : ℕ) (w : List ℕ) → DispatchForm n m w → length w ≡ n + m + 2
-dispatch-long n m w (d, l, e) = let a = l.machines in let b = l.buses in let k = words_length d in ap length e ∙ (omega arith)
+pub dispatch_long : (n m : ℕ) (w : List ℕ) → Matches (dispatch_slots n m) w → length w ≡ n + m + 2
+dispatch_long n m w s =
+    let d = dispatch-to n m w s in
+    let a = d.1.machines in
+    let b = d.1.buses in
+    let k = words_length d.0 in
+    ap length d.2 ∙ (omega arith)
 
 -- the numbers at the places of each run are those of the dispatch
 module _ (n m : ℕ) (w : List ℕ) (d : Dispatch) (l : LawfulDispatch n m d) (e : w ≡ dispatch_words d) where
-  pub powers_at : (i : ℕ) → column_value w 1 n 1 i ≡ get_or d.powers i (pos 0)
+  powers_at : (i : ℕ) → column_value w 1 n 1 i ≡ get_or d.powers i (pos 0)
   powers_at i =
       column_run w (word_of kind.Head 2 ∷ []) d.powers (map amount_word d.angles ++ (word_of kind.End 0 ∷ [])) 1 n i e refl l.machines
       (All-weaker Power Short power_short d.powers l.units.powers)
 
-  pub angles_at : (i : ℕ) → column_value w (1 + n) m 1 i ≡ get_or d.angles i (pos 0)
+  angles_at : (i : ℕ) → column_value w (1 + n) m 1 i ≡ get_or d.angles i (pos 0)
   angles_at i =
       let k : length (map amount_word d.powers) ≡ n = length-map d.powers amount_word ∙ l.machines in
       column_run w (word_of kind.Head 2 ∷ map amount_word d.powers) d.angles (word_of kind.End 0 ∷ []) (1 + n) m i e (omega arith) l.buses
       (All-weaker Angle Short angle-short d.angles l.units.angles)
+
+pub reads_dispatch : (n m : ℕ) (w : List ℕ) (p : DispatchPaper) → Matches (dispatch_slots n m) w → ((i : ℕ) → value_of p.powers i ≡ column_value w 1 n 1 i) → ((i : ℕ) → value_of p.angles i ≡ column_value w (1 + n) m 1 i) → ReadsDispatch n m w p
+reads_dispatch n m w p s f g =
+    let d = dispatch-to n m w s in
+    record {
+      dispatch = d.0;
+      lawful = d.1;
+      words = d.2;
+      powers = λ i. f i ∙ powers_at n m w d.0 d.1 d.2 i;
+      angles = λ i. g i ∙ angles_at n m w d.0 d.1 d.2 i;
+    }
 
 -- two dispatches of the same counts with the same words are the same
 pub dispatch-same : (n m : ℕ) (d e : Dispatch) → LawfulDispatch n m d → LawfulDispatch n m e → dispatch_words e ≡ dispatch_words d → e ≡ d
@@ -111,26 +128,42 @@ reads_back d u =
     record {
       lawful = l;
       same = λ e k h. dispatch-same n m d e l k h;
-      taken = λ r place. (form_exact (DispatchForm n m) (dispatch_runs n m) (dispatch-to n m) (dispatch-from n m)).accepted (dispatch_words d) r place (d, l, refl);
+      taken = λ r place. (form_exact (DispatchForm n m) (dispatch_slots n m) (dispatch_layout n m)).accepted (dispatch_words d) r place (d, l, refl);
     }
+
+set_paste : (l : List ℕ) (k x : ℕ) → k < length l → set l k x ≡ paste l k (x ∷ []) 1
+set_paste l k x h =
+    let s : set l k x ≡ take k l ++ (x ∷ drop (k + 1) l) = rw add-one (set_split l k x h) in
+    s ∙ sym (paste_all l k (x ∷ []) 1 refl)
+
+-- one part after the other, from the first place on
+then_paste : (l s t : List ℕ) (n m : ℕ) → n ≡ length s → m ≡ length t → paste (paste l 0 s n) n t m ≡ paste l 0 (s ++ t) (n + m)
+then_paste l s t n m e f =
+    let z : 0 + n ≡ n = omega arith in
+    subst (λ (k : ℕ). paste (paste l 0 s n) k t m ≡ paste l 0 (s ++ t) (n + m)) z (paste-paste l 0 s t n m e f (omega arith))
 
 -- a list after the head, both tables and the end word are written over it, one after the other
 pub written : (f t : List ℤ) (l₀ l₁ l₂ : List ℕ) (h e : ℕ) → length f + length t + 2 ≤ length l₀ → h ≡ word_of kind.Head 2 → e ≡ word_of kind.End 0 → l₁ ≡ take 1 (set l₀ 0 h) ++ (map amount_word f ++ drop (1 + length f) (set l₀ 0 h)) → l₂ ≡ take (1 + length f) l₁ ++ (map amount_word t ++ drop ((1 + length f) + length t) l₁) → set l₂ ((1 + length f) + length t) e ≡ dispatch_words (dispatch_of f t) ++ drop (((1 + length f) + length t) + 1) l₀
 written f t l₀ l₁ l₂ h e room eh ee e₁ e₂ =
+    let n : ℕ = length f in
+    let m : ℕ = length t in
     let A : List ℕ = map amount_word f in
     let C : List ℕ = map amount_word t in
-    let la : length A ≡ length f = length-map f amount_word in
-    let lc : length C ≡ length t = length-map t amount_word in
-    let p₁ : List ℕ = (h ∷ []) ++ A in
-    let p₂ : List ℕ = p₁ ++ C in
-    let n₁ : length p₁ ≡ 1 + length f = omega arith in
-    let n₂ : length p₂ ≡ (1 + length f) + length t = omega (arith, length-append p₁ C) in
-    let b₀ : Begun (set l₀ 0 h) (h ∷ []) l₀ = begun-one l₀ [] l₀ h 0 refl refl (omega arith) in
-    let b₁ = begun-run (set l₀ 0 h) l₁ (h ∷ []) A l₀ 1 (length f) refl la b₀ e₁ in
-    let b₂ = begun-run l₁ l₂ p₁ C l₀ (1 + length f) (length t) n₁ lc b₁ e₂ in
-    let b₃ = begun-one l₂ p₂ l₀ e ((1 + length f) + length t) n₂ b₂ (omega arith) in
-    let n₃ : length (p₂ ++ (e ∷ [])) ≡ ((1 + length f) + length t) + 1 = omega (arith, length-append p₂ (e ∷ [])) in
-    let q : p₂ ++ (e ∷ []) ≡ h ∷ (A ++ (C ++ (e ∷ []))) = simp append_assoc in
-    let r : h ∷ (A ++ (C ++ (e ∷ []))) ≡ dispatch_words (dispatch_of f t) =
-    ap (λ (x : ℕ). x ∷ (A ++ (C ++ (e ∷ [])))) eh ∙ ap (λ (x : ℕ). word_of kind.Head 2 ∷ (A ++ (C ++ (x ∷ [])))) ee in
-    b₃ ∙ ap (λ (x : List ℕ). x ++ drop (length (p₂ ++ (e ∷ []))) l₀) (q ∙ r) ∙ ap (λ (k : ℕ). dispatch_words (dispatch_of f t) ++ drop k l₀) n₃
+    let la : n ≡ length A = sym (length-map f amount_word) in
+    let lc : m ≡ length C = sym (length-map t amount_word) in
+    let lac : (1 + n) + m ≡ length (h ∷ (A ++ C)) = omega (arith, length-append A C) in
+    let a₀ : set l₀ 0 h ≡ paste l₀ 0 (h ∷ []) 1 = set_paste l₀ 0 h (omega arith) in
+    let a₁ : l₁ ≡ paste l₀ 0 (h ∷ A) (1 + n) =
+    e₁ ∙ sym (paste_all (set l₀ 0 h) 1 A n la) ∙ ap (λ (l : List ℕ). paste l 1 A n) a₀ ∙ then_paste l₀ (h ∷ []) A 1 n refl la in
+    let a₂ : l₂ ≡ paste l₀ 0 (h ∷ (A ++ C)) ((1 + n) + m) =
+    e₂ ∙ sym (paste_all l₁ (1 + n) C m lc) ∙ ap (λ (l : List ℕ). paste l (1 + n) C m) a₁ ∙ then_paste l₀ (h ∷ A) C (1 + n) m (omega arith) lc in
+    let k₂ : length l₂ ≡ length l₀ = ap length a₂ ∙ length-paste l₀ 0 (h ∷ (A ++ C)) ((1 + n) + m) (omega arith) (omega arith) in
+    let a₃ : set l₂ ((1 + n) + m) e ≡ paste l₀ 0 (h ∷ ((A ++ C) ++ (e ∷ []))) (((1 + n) + m) + 1) =
+    set_paste l₂ ((1 + n) + m) e (omega arith) ∙ ap (λ (l : List ℕ). paste l ((1 + n) + m) (e ∷ []) 1) a₂ ∙ then_paste l₀ (h ∷ (A ++ C)) (e ∷ []) ((1 + n) + m) 1 lac refl in
+    let w : h ∷ ((A ++ C) ++ (e ∷ [])) ≡ dispatch_words (dispatch_of f t) = λ i. eh i ∷ (append_assoc A C (e ∷ []) ∙ (λ j. A ++ (C ++ (ee j ∷ [])))) i in
+    let k : ((1 + n) + m) + 1 ≡ length (h ∷ ((A ++ C) ++ (e ∷ []))) = omega (arith, length-append (A ++ C) (e ∷ [])) in
+    let z : 0 + (((1 + n) + m) + 1) ≡ ((1 + n) + m) + 1 = omega arith in
+    a₃ ∙ paste_all l₀ 0 (h ∷ ((A ++ C) ++ (e ∷ []))) (((1 + n) + m) + 1) k ∙ (λ i. w i ++ drop (z i) l₀)
+
+pub dispatch_refused : (n m : ℕ) (w : List ℕ) (f : WordFault) → RefusedWord (Matches (dispatch_slots n m)) w f → RefusedWord (DispatchForm n m) w f
+dispatch_refused n m w f r = refused _ _ (dispatch_layout n m) w f r

@@ -3,5 +3,4 @@ pub mod Names
 pub mod Changes
 pub mod HandOvers
 pub mod Dispatches
-pub mod Tables
 pub mod Lists

@@ -7,11 +7,12 @@ use Rattle.std.proofs.lemmas.Bool.{cases_lt}
 use Rattle.std.proofs.lemmas.Int.{ints}
 use Rattle.word.specs.Word.{amount_of, word_of, amount_word}
 use Rattle.word.specs.Laws.{Short}
+use Rattle.word.specs.Fault.{RefusedWord}
+use Rattle.word.specs.declared.fault.WordFault.{WordFault}
 use Rattle.word.specs.Slot.{Matches}
-use Rattle.word.specs.Run.{slots_of, in_turn}
+use Rattle.word.specs.Run.{in_turn}
 use Rattle.word.specs.Column.{column_value}
 use Rattle.word.specs.declared.kind.Kind.TheVariants as kind
-use Rattle.word.specs.declared.run.Run.{Run}
 use Rattle.word.specs.declared.slot.Slot.{Slot}
 use Rattle.word.specs.declared.slot.Slot.TheVariants.{Head, Branch, End}
 use Rattle.word.proofs.Words.{amount_same, amount_back}
@@ -20,11 +21,11 @@ use Rattle.word.proofs.Fillings.{head_word, head_fits, end_fits, last_word, run_
 use Rattle.word.proofs.Slots.{matches_join, matches_parts}
 use Rattle.names.specs.declared.branch.BranchName.{BranchName}
 use Rattle.paper.specs.Range.{Priced, price_slot, angle_price_slot}
-use Rattle.paper.specs.Name.{branch_of, Named}
-use Rattle.paper.specs.Prices.{BranchPrices, Prices, pair_words, list_words, prices_words, PairPriced, LawfulPrices, PricesForm, GivesPrices, branch_run, ColumnsFrom}
-use Rattle.paper.specs.Trial.{trial_words, TrialForm}
+use Rattle.paper.specs.Name.{branch_word, branch_of, Named}
+use Rattle.paper.specs.Prices.{BranchPrices, Prices, pair_words, list_words, prices_words, PairPriced, LawfulPrices, PricesForm, GivesPrices, ReadsPrices, ColumnsFrom}
+use Rattle.paper.specs.Trial.{trial_words, TrialForm, ReadsTrial}
 use Rattle.paper.specs.declared.prices.PricesPaper.{PricesPaper}
-use Rattle.paper.proofs.Layouts.{one, many, price-short, angle-price_short}
+use Rattle.paper.proofs.Layouts.{Layout, refused, all_same, price-short, angle-price_short}
 use Rattle.paper.proofs.Names.{branch_word-branch_of, branch_named, branch_fits}
 
 -- words in turn are those of pairs
@@ -68,7 +69,7 @@ words_pairs (b ∷ bs) a =
 abbrev pub list_slots : ℕ → ℕ → List Slot
 list_slots n m = in_turn n price_slot price_slot ++ (in_turn (2 * m) price_slot angle_price_slot ++ (End ∷ []))
 
-pub list_to : (n m : ℕ) (w : List ℕ) → Matches (list_slots n m) w → (l : Prices) × LawfulPrices n m l × (w ≡ list_words l)
+list_to : (n m : ℕ) (w : List ℕ) → Matches (list_slots n m) w → (l : Prices) × LawfulPrices n m l × (w ≡ list_words l)
 list_to n m w s =
     let p = matches_parts (in_turn n price_slot price_slot) (in_turn (2 * m) price_slot angle_price_slot ++ (End ∷ [])) w s in
     let q = matches_parts (in_turn (2 * m) price_slot angle_price_slot) (End ∷ []) p.right p.rights in
@@ -80,7 +81,7 @@ list_to n m w s =
       p.whole ∙ (λ j. x.0 j ++ (q.whole ∙ (λ k. y.words k ++ l k)) j),
     )
 
-pub list_from : (n m : ℕ) (l : Prices) → LawfulPrices n m l → Matches (list_slots n m) (list_words l)
+list_from : (n m : ℕ) (l : Prices) → LawfulPrices n m l → Matches (list_slots n m) (list_words l)
 list_from n m l h =
     let x = words_run (negsuc 999999) (pos 1000000) price-short l.buses h.prices in
     let y = words_pairs l.branches h.pairs in
@@ -113,21 +114,21 @@ module _ (w pre : List ℕ) (bs : List BranchPrices) (rest : List ℕ) (m i : �
       ap (λ (x : ℕ). amount_of (get_or w x 0)) h ∙ ap (λ (v : List ℕ). amount_of (get_or v (length pre + j) 0)) e
       ∙ ap amount_of (get_or-append-add pre (flat_map pair_words bs ++ rest) j 0)
 
-  pub column_first : (start : ℕ) → length pre ≡ start → column_value w start m 2 i ≡ get_or (map (λ b. b.congestion) bs) i (pos 0)
+  column_first : (start : ℕ) → length pre ≡ start → column_value w start m 2 i ≡ get_or (map (λ b. b.congestion) bs) i (pos 0)
   column_first start l =
       elim (cases_lt i m) [
         | inl h ↦ value_in w start m 2 i h ∙ read_at (2 * i) (start + 2 * i) (omega arith) ∙ get_or-first bs rest i (2 * i) refl (omega arith) a
         | inr h ↦ value_out w start m 2 i h ∙ sym (get_or_past (map (λ b. b.congestion) bs) i (pos 0) (omega (arith, length-map bs (λ b. b.congestion))))
       ]
 
-  pub column_second : (start : ℕ) → length pre + 1 ≡ start → column_value w start m 2 i ≡ get_or (map (λ b. b.angle) bs) i (pos 0)
+  column_second : (start : ℕ) → length pre + 1 ≡ start → column_value w start m 2 i ≡ get_or (map (λ b. b.angle) bs) i (pos 0)
   column_second start l =
       elim (cases_lt i m) [
         | inl h ↦ value_in w start m 2 i h ∙ read_at (2 * i + 1) (start + 2 * i) (omega arith) ∙ get_or-second bs rest i (2 * i + 1) refl (omega arith) a
         | inr h ↦ value_out w start m 2 i h ∙ sym (get_or_past (map (λ b. b.angle) bs) i (pos 0) (omega (arith, length-map bs (λ b. b.angle))))
       ]
 
-pub list_gives : (n m start : ℕ) (w pre : List ℕ) (l : Prices) (p : PricesPaper) → LawfulPrices n m l → w ≡ pre ++ list_words l → length pre ≡ start → ColumnsFrom start n m w p → GivesPrices l p
+list_gives : (n m start : ℕ) (w pre : List ℕ) (l : Prices) (p : PricesPaper) → LawfulPrices n m l → w ≡ pre ++ list_words l → length pre ≡ start → ColumnsFrom start n m w p → GivesPrices l p
 list_gives n m start w pre l p h e k c =
     let A : List ℕ = map amount_word l.buses in
     let B : List ℕ = flat_map pair_words l.branches in
@@ -142,30 +143,25 @@ list_gives n m start w pre l p h e k c =
     }
 
 -- price lists
-abbrev pub prices_runs : ℕ → ℕ → List Run
-prices_runs n m = one (Head 3) ∷ many n price_slot ∷ branch_run m ∷ one End ∷ []
+abbrev pub prices_slots : ℕ → ℕ → List Slot
+prices_slots n m = Head 3 ∷ list_slots n m
 
-pub prices-to : (n m : ℕ) (w : List ℕ) → Matches (slots_of (prices_runs n m)) w → PricesForm n m w
+prices-to : (n m : ℕ) (w : List ℕ) → Matches (prices_slots n m) w → PricesForm n m w
 prices-to n m [] s = absurd s
 prices-to n m (h ∷ w) s =
     let eh = head_word 3 h s.0 in
     let t = list_to n m w s.1 in
     (t.0, t.1, λ i. eh i ∷ t.2 i)
 
-pub prices-from : (n m : ℕ) (w : List ℕ) → PricesForm n m w → Matches (slots_of (prices_runs n m)) w
+prices-from : (n m : ℕ) (w : List ℕ) → PricesForm n m w → Matches (prices_slots n m) w
 prices-from n m w (l, h, e) =
-    subst (λ (v : List ℕ). Matches (slots_of (prices_runs n m)) v) (sym e) (head_fits 3 (omega arith), list_from n m l h)
+    subst (λ (v : List ℕ). Matches (prices_slots n m) v) (sym e) (head_fits 3 (omega arith), list_from n m l h)
 
 -- a list with no price but 0
-
 free : ℕ → ℕ → Prices
 free n m = record { buses = replicate n (pos 0); branches = replicate m (record { congestion = pos 0; angle = pos 0 }) }
 
-all_same : {X : Type 0} (P : X → Type 0) (x : X) → P x → (n : ℕ) → AllByRecursion P (replicate n x)
-all_same P x p zero = tt
-all_same P x p (suc n) = (p, all_same P x p n)
-
-pub free-lawful : (n m : ℕ) → (l : Prices) × LawfulPrices n m l
+free-lawful : (n m : ℕ) → (l : Prices) × LawfulPrices n m l
 unfolding free
 free-lawful n m = (
   free n m,
@@ -177,14 +173,22 @@ free-lawful n m = (
   },
 )
 
-pub prices-some : (n m : ℕ) → (w : List ℕ) × PricesForm n m w
+prices-some : (n m : ℕ) → (w : List ℕ) × PricesForm n m w
 prices-some n m = let l = free-lawful n m in (prices_words l.0, (l.0, l.1, refl))
 
--- trials
-abbrev pub trial_runs : ℕ → ℕ → List Run
-trial_runs n m = one (Head 6) ∷ one Branch ∷ many n price_slot ∷ branch_run m ∷ one End ∷ []
+pub reads_prices : (n m : ℕ) (w : List ℕ) (p : PricesPaper) → Matches (prices_slots n m) w → ColumnsFrom 1 n m w p → ReadsPrices n m w p
+reads_prices n m w p s c =
+    let l = prices-to n m w s in
+    record { list = l.0; lawful = l.1; words = l.2; gives = list_gives n m 1 w (word_of kind.Head 3 ∷ []) l.0 p l.1 l.2 refl c }
 
-pub trial_read : (n m : ℕ) (w : List ℕ) → Matches (slots_of (trial_runs n m)) w → (l : Prices) × Named (branch_of (get_or w 1 0)) × LawfulPrices n m l × (w ≡ trial_words (branch_of (get_or w 1 0)) l)
+pub prices_layout : (n m : ℕ) → Layout (PricesForm n m) (prices_slots n m)
+prices_layout n m = record { to = prices-to n m; from = prices-from n m; some = prices-some n m }
+
+-- trials
+abbrev pub trial_slots : ℕ → ℕ → List Slot
+trial_slots n m = Head 6 ∷ Branch ∷ list_slots n m
+
+trial_read : (n m : ℕ) (w : List ℕ) → Matches (trial_slots n m) w → (l : Prices) × Named (branch_of (get_or w 1 0)) × LawfulPrices n m l × (w ≡ trial_words (branch_of (get_or w 1 0)) l)
 trial_read n m [] s = absurd s
 trial_read n m (h ∷ []) s = absurd s.1
 trial_read n m (h ∷ x ∷ w) s =
@@ -193,15 +197,35 @@ trial_read n m (h ∷ x ∷ w) s =
     let t = list_to n m w s.1.1 in
     (t.0, branch_named x s.1.0, t.1, λ i. eh i ∷ ex i ∷ t.2 i)
 
-pub trial_to : (n m : ℕ) (w : List ℕ) → Matches (slots_of (trial_runs n m)) w → TrialForm n m w
+trial_to : (n m : ℕ) (w : List ℕ) → Matches (trial_slots n m) w → TrialForm n m w
 trial_to n m w s = let t = trial_read n m w s in (branch_of (get_or w 1 0), t.0, t.1, t.2, t.3)
 
-pub trial_from : (n m : ℕ) (w : List ℕ) → TrialForm n m w → Matches (slots_of (trial_runs n m)) w
+trial_from : (n m : ℕ) (w : List ℕ) → TrialForm n m w → Matches (trial_slots n m) w
 trial_from n m w (b, l, k, h, e) =
-    subst (λ (v : List ℕ). Matches (slots_of (trial_runs n m)) v) (sym e) (head_fits 6 (omega arith), (branch_fits b k, list_from n m l h))
+    subst (λ (v : List ℕ). Matches (trial_slots n m) v) (sym e) (head_fits 6 (omega arith), (branch_fits b k, list_from n m l h))
 
-pub trial_some : (n m : ℕ) → (w : List ℕ) × TrialForm n m w
+trial_some : (n m : ℕ) → (w : List ℕ) × TrialForm n m w
 trial_some n m =
     let l = free-lawful n m in
     let b : BranchName = record { circuit = 1; from = 1; to = 1 } in
     (trial_words b l.0, (b, l.0, record { circuits = (omega arith, omega arith); froms = (omega arith, omega arith); tos = (omega arith, omega arith) }, l.1, refl))
+
+pub trial_layout : (n m : ℕ) → Layout (TrialForm n m) (trial_slots n m)
+trial_layout n m = record { to = trial_to n m; from = trial_from n m; some = trial_some n m }
+
+pub reads_trial : (n m : ℕ) (w : List ℕ) (p : PricesPaper) → Matches (trial_slots n m) w → ColumnsFrom 2 n m w p → ReadsTrial n m w (record { branch = branch_of (get_or w 1 0); list = p })
+reads_trial n m w p s c =
+    let t = trial_read n m w s in
+    record {
+      list = t.0;
+      named = t.1;
+      lawful = t.2;
+      words = t.3;
+      gives = list_gives n m 2 w (word_of kind.Head 6 ∷ branch_word (branch_of (get_or w 1 0)) ∷ []) t.0 p t.2 t.3 refl c;
+    }
+
+pub prices_refused : (n m : ℕ) (w : List ℕ) (f : WordFault) → RefusedWord (Matches (prices_slots n m)) w f → RefusedWord (PricesForm n m) w f
+prices_refused n m w f r = refused _ _ (prices_layout n m) w f r
+
+pub trial_refused : (n m : ℕ) (w : List ℕ) (f : WordFault) → RefusedWord (Matches (trial_slots n m)) w f → RefusedWord (TrialForm n m) w f
+trial_refused n m w f r = refused _ _ (trial_layout n m) w f r

@@ -1,7 +1,8 @@
 // Change papers: exactly a head, a name, an amount, an end.
 ghost use Rattle.std.specs.Prelude.{◌≡◌, MatchResult};
 ghost use Rattle.word.specs.Fault.{RefusedWord};
-ghost use Rattle.paper.specs.Change.{demand_words, LawfulDemand, DemandForm, mark_words, LawfulMark, MarkForm};
+ghost use Rattle.word.specs.Slot.{Fits, Matches, Possible};
+ghost use Rattle.paper.specs.Change.{change_slots, change_words, demand_words, LawfulDemand, DemandForm, mark_words, LawfulMark, MarkForm};
 
 use crate::name::branch_name;
 use crate::range::{MARK, POWER};
@@ -26,44 +27,44 @@ pub struct MarkChange {
     pub in_service: bool,
 }
 
+// The words are a head, a name, an amount and an end; returned are the words of the name and the amount.
+fn admit_change(words: &[u32], head: u32, name: Slot, amount: Slot) -> Result<(u32, u32), WordFault>
+    requires { Possible (change_slots head name amount) }
+    ensures { MatchResult result (λ p. Fits name p.0 × Fits amount p.1 × (words.now ≡ change_words head p.0 p.1)) (λ f. RefusedWord (Matches (change_slots head name amount)) words.now f) }
+{
+    admit_all(
+        words,
+        &[
+            Run::one(Slot::Head(head)),
+            Run::one(name),
+            Run::one(amount),
+            Run::one(Slot::End),
+        ],
+    )?;
+    let [_head, name, amount, _end] = words else {
+        return unreachable();
+    };
+    Ok((*name, *amount))
+}
+
+#[tactic(auto, using(crate::proofs::Layouts::possible, crate::proofs::Layouts::refused, crate::proofs::Changes::demand_layout))]
 pub fn read_demand_change(words: &[u32]) -> Result<DemandChange, WordFault>
     ensures { MatchResult result (λ v. LawfulDemand v × (words.now ≡ demand_words v)) (λ f. RefusedWord DemandForm words.now f) }
 {
-    admit_all(
-        words,
-        &[
-            Run::one(Slot::Head(4)),
-            Run::one(Slot::Bus),
-            Run::one(POWER),
-            Run::one(Slot::End),
-        ],
-    )?;
-    let [_head, bus, demand, _end] = words else {
-        return unreachable();
-    };
+    let (bus, demand) = admit_change(words, 4, Slot::Bus, POWER)?;
     Ok(DemandChange {
-        bus: payload(*bus),
-        demand: Watts(amount(*demand)),
+        bus: payload(bus),
+        demand: Watts(amount(demand)),
     })
 }
 
+#[tactic(auto, using(crate::proofs::Layouts::possible, crate::proofs::Layouts::refused, crate::proofs::Changes::mark_layout))]
 pub fn read_mark_change(words: &[u32]) -> Result<MarkChange, WordFault>
     ensures { MatchResult result (λ v. LawfulMark v × (words.now ≡ mark_words v)) (λ f. RefusedWord MarkForm words.now f) }
 {
-    admit_all(
-        words,
-        &[
-            Run::one(Slot::Head(5)),
-            Run::one(Slot::Branch),
-            Run::one(MARK),
-            Run::one(Slot::End),
-        ],
-    )?;
-    let [_head, branch, mark, _end] = words else {
-        return unreachable();
-    };
+    let (branch, mark) = admit_change(words, 5, Slot::Branch, MARK)?;
     Ok(MarkChange {
-        branch: branch_name(*branch),
-        in_service: amount(*mark) == 1,
+        branch: branch_name(branch),
+        in_service: amount(mark) == 1,
     })
 }

@@ -3,6 +3,7 @@ ghost use Rattle.std.specs.Prelude.{◌≡◌, MatchResult};
 ghost use Rattle.word.specs.Fault.{RefusedWord};
 ghost use Rattle.paper.specs.Dispatch.{DispatchForm, ReadsDispatch};
 
+use crate::columns::column;
 use crate::range::{ANGLE, POWER};
 use word::column::WordColumn;
 use word::fault::WordFault;
@@ -18,6 +19,7 @@ pub struct DispatchPaper<'a> {
 }
 
 // Reads a dispatch of so many powers and angles.
+#[tactic(auto, using(crate::proofs::Dispatches::dispatch_refused, crate::proofs::Dispatches::dispatch_long, crate::proofs::Dispatches::reads_dispatch))]
 pub fn read_dispatch<'a>(
     words: &'a [u32],
     powers: usize,
@@ -35,17 +37,7 @@ pub fn read_dispatch<'a>(
         ],
     )?;
     Ok(DispatchPaper {
-        powers: WordColumn {
-            words,
-            start: 1,
-            count: powers,
-            stride: 1,
-        },
-        angles: WordColumn {
-            words,
-            start: 1 + powers,
-            count: angles,
-            stride: 1,
-        },
+        powers: column::<1>(words, 1, powers),
+        angles: column::<1>(words, 1 + powers, angles),
     })
 }

@@ -10,6 +10,7 @@ use word::read::admit_all;
 use word::run::Run;
 use word::slot::Slot;
 
+#[tactic(auto, using(crate::proofs::Layouts::refused, crate::proofs::HandOvers::hand_over_layout))]
 pub fn read_hand_over(words: &[u32]) -> Result<u16, WordFault>
     ensures { MatchResult result (λ v. (v < 65536) × (words.now ≡ hand_over_words v)) (λ f. RefusedWord HandOverForm words.now f) }
 {

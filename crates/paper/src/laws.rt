@@ -2,8 +2,6 @@
 ghost use Rattle.paper.specs.Laws.{PapersExact};
 
 // A paper of a form is not refused, and other words are so for one reason at one place.
-pub fn papers_exact() -> u8
+pub fn papers_exact()
     ensures { PapersExact }
-{
-    0
-}
+{}

@@ -2,6 +2,7 @@
 #![tactic(auto)]
 
 pub mod change;
+mod columns;
 pub mod dispatch;
 pub mod hand_over;
 pub mod laws;

@@ -3,6 +3,7 @@ ghost use Rattle.std.specs.Prelude.{◌≡◌, ◌≤◌, MatchResult};
 ghost use Rattle.word.specs.Fault.{RefusedWord};
 ghost use Rattle.paper.specs.Prices.{branch_run, ColumnsFrom, PricesForm, ReadsPrices};
 
+use crate::columns::column;
 use crate::range::{ANGLE_PRICE, PRICE};
 use word::column::WordColumn;
 use word::fault::WordFault;
@@ -25,41 +26,27 @@ pub fn branch_run(branches: u8) -> Run
     ensures { result ≡ branch_run branches }
 {
     Run {
-        count: 2 * branches as usize,
+        count: 2 * usize::from(branches),
         slot: PRICE,
         other: ANGLE_PRICE,
     }
 }
 
-// The columns of a price list that stands from a place on.
+// The columns of a price list that stands from a place on; the two counts apart, as its readers are given them.
 pub fn price_columns<'a>(words: &'a [u32], start: usize, buses: u8, branches: u8) -> PricesPaper<'a>
     requires { start ≤ 2 }
     ensures { ColumnsFrom start buses branches words.now result }
 {
-    let after = start + buses as usize;
+    let after = start + usize::from(buses);
     PricesPaper {
-        prices: WordColumn {
-            words,
-            start,
-            count: buses as usize,
-            stride: 1,
-        },
-        congestion_prices: WordColumn {
-            words,
-            start: after,
-            count: branches as usize,
-            stride: 2,
-        },
-        angle_prices: WordColumn {
-            words,
-            start: after + 1,
-            count: branches as usize,
-            stride: 2,
-        },
+        prices: column::<1>(words, start, usize::from(buses)),
+        congestion_prices: column::<2>(words, after, usize::from(branches)),
+        angle_prices: column::<2>(words, after + 1, usize::from(branches)),
     }
 }
 
 // Reads a price list for so many buses and branches.
+#[tactic(auto, using(crate::proofs::Lists::prices_refused, crate::proofs::Lists::reads_prices))]
 pub fn read_prices<'a>(
     words: &'a [u32],
     buses: u8,
@@ -71,7 +58,7 @@ pub fn read_prices<'a>(
         words,
         &[
             Run::one(Slot::Head(3)),
-            Run::many(buses as usize, PRICE),
+            Run::many(usize::from(buses), PRICE),
             branch_run(branches),
             Run::one(Slot::End),
         ],

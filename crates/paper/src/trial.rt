@@ -20,6 +20,7 @@ pub struct TrialPaper<'a> {
 }
 
 // Reads a trial with a list for so many buses and branches.
+#[tactic(auto, using(crate::proofs::Lists::trial_refused, crate::proofs::Lists::reads_trial))]
 pub fn read_trial<'a>(
     words: &'a [u32],
     buses: u8,
@@ -32,7 +33,7 @@ pub fn read_trial<'a>(
         &[
             Run::one(Slot::Head(6)),
             Run::one(Slot::Branch),
-            Run::many(buses as usize, PRICE),
+            Run::many(usize::from(buses), PRICE),
             branch_run(branches),
             Run::one(Slot::End),
         ],

@@ -1,7 +1,8 @@
 -- Tables filled row by row.
-use Rattle.std.proofs.Common.{◌≡◌, ℕ, zero, suc, ◌+◌, ◌<◌, ◌≤◌, min, List, [], ◌∷◌, length, take, drop, set, sym, refl, ap, ◌∙◌, subst, arith}
+use Rattle.std.proofs.Common.{◌≡◌, ℕ, zero, suc, ◌+◌, ◌<◌, ◌≤◌, min, List, [], ◌∷◌, Option, Some, None, length, take, drop, set, sym, refl, ap, ◌∙◌, subst, arith}
 use native.Mathlib.Decide.{dec_lt}
 use Rattle.std.proofs.lemmas.List.{length-take, drop-drop, drop-set-lt}
+use Rattle.std.specs.Option.{IsSome}
 use Rattle.measure.specs.Rows.{Stands, HoldsAt}
 use Rattle.measure.proofs.Sums.{stands_one, stands_below}
 use Rattle.build.specs.Build.{Filled}
@@ -43,6 +44,18 @@ module _ {X Y : Type 0} (R : X → Y → Type 0) (given : List X) (before : List
 
   pub filled_to : (after : List Y) (m n : ℕ) → n ≡ m → Filled R given before after m → Filled R given before after n
   filled_to after m n e f = subst (Filled R given before after) (sym e) f
+
+-- the same table, said by a weaker relation
+pub filled_as : {X Y : Type 0} (R S : X → Y → Type 0) (given : List X) (before after : List Y) (n : ℕ) → ((x : X) (y : Y) → R x y → S x y) → Filled R given before after n → Filled S given before after n
+filled_as R S given before after n weaker f = record {
+  first = λ i x l s. let h = f.first i x l s in record { item = h.item; stands = h.stands; holds = weaker x h.item h.holds };
+  later = f.later;
+}
+
+-- an option that something holds of, and that it doesn't hold of where it is none
+pub some_made : {Y : Type 0} (P : Option Y → Type 0) (r : Option Y) → P r → (P None → ⊥) → IsSome r
+some_made P None p none = absurd (none p)
+some_made P (Some y) p none = refl
 
 stands_take : {X : Type 0} (n : ℕ) (xs : List X) (i : ℕ) (x : X) → Stands (take n xs) i x → (i < n) × Stands xs i x
 unfolding Stands

@@ -1,5 +1,5 @@
 -- Rows of tables, read by their numbers.
-use Rattle.std.proofs.Common.{ℕ, zero, suc, ◌<◌, List, [], ◌∷◌, length, get_or, sym, refl, subst, inl, inr, arith}
+use Rattle.std.proofs.Common.{ℕ, zero, suc, ◌<◌, List, [], ◌∷◌, Option, Some, None, MatchOption, length, get_or, sym, refl, subst, inl, inr, arith}
 use Rattle.measure.specs.Rows.{Stands}
 use Rattle.network.specs.declared.branch.Branch.{Branch}
 use Rattle.network.specs.declared.branch.Ends.{Ends}
@@ -28,3 +28,8 @@ joined buses r e b f k = record {
   to = subst (λ (n : Ends). Found buses r.name.to n.to) (sym k.ends) f.to_row;
   row = subst (λ (n : Ends). BranchOf r n b) (sym k.ends) k;
 }
+
+-- the same of an option, said by weaker relations
+pub option_as : {X : Type 0} {N N' : Type 0} {S S' : X → Type 0} (r : Option X) → (N → N') → ((x : X) → S x → S' x) → MatchOption r N S → MatchOption r N' S'
+option_as None none some h = none h
+option_as (Some x) none some h = some x h

@@ -4,9 +4,9 @@ ghost use Rattle.build.specs.Build.{Laid, NotLaid, WellFormed, laid_case, lent};
 
 use crate::check::check;
 use crate::fill::{fill_branches, fill_buses, fill_places};
+use crate::places::BusNames;
 use crate::tables::{Counts, Room, Rows};
 use machine::machine::Machine;
-use names::list::NameList;
 use network::branch::Branch;
 use network::bus::Bus;
 use network::refusal::Refusal;
@@ -30,7 +30,7 @@ pub fn lay<M: Machine, N: Machine>(
         branches: branches.len(),
     };
     let counts = check(rows, &room)?;
-    let names = NameList { rows: rows.buses };
+    let names = BusNames { rows: rows.buses };
     fill_buses(rows.buses, buses);
     fill_places(&names, rows.first, first);
     fill_places(&names, rows.second, second);

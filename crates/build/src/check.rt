@@ -17,24 +17,14 @@ use network::refusal::Refusal;
 fn first_out_of_range<R: Ranged>(rows: &[R]) -> Option<usize>
     ensures { Lowest (HoldsAt (λ x. R.Ranged.ranged x.item → ⊥) rows.now) result }
 {
-    for (i, row) in rows.iter().enumerate() {
-        if !row.is_in_range() {
-            return Some(i);
-        }
-    }
-    None
+    rows.iter().position(|row| !row.is_in_range())
 }
 
 // The lowest branch whose limits are crossed, or none.
 fn first_crossed(rows: &[BranchRow]) -> Option<usize>
     ensures { Lowest (BranchCrossed rows.now) result }
 {
-    for (i, row) in rows.iter().enumerate() {
-        if row.is_crossed() {
-            return Some(i);
-        }
-    }
-    None
+    rows.iter().position(BranchRow::is_crossed)
 }
 
 // The lowest row whose name an earlier row has, or none.

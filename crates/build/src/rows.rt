@@ -9,6 +9,7 @@ use names::branch::BranchName;
 use names::name::Named;
 use network::branch::{Branch, Ends};
 use network::bus::Bus;
+use network::case::POWER_LIMIT;
 
 // A bus as it is offered: any numbers may stand in it.
 #[derive(Clone, Copy, Default)]
@@ -29,8 +30,6 @@ pub struct BranchRow {
     pub service: bool,
 }
 
-// Every power lies within ± this many watts.
-const POWER: i64 = 100_000_000;
 // Every susceptance is 1 to this many watts per microradian.
 const SUSCEPTANCE: i64 = 1_000_000;
 // Every phase shift lies within ± this many microradians.
@@ -42,7 +41,7 @@ const DIFFERENCE: i64 = 6_400_000;
 fn is_name(number: u32) -> bool
     ensures { Decides result (NameRange number) }
 {
-    (1 <= number) & (number <= 255)
+    (1..=255).contains(&number)
 }
 
 // A row of which it is known which numbers may stand in it.
@@ -59,7 +58,7 @@ impl Ranged for BusRow {
     ghost ranged = { BusInRange };
 
     fn is_in_range(&self) -> bool {
-        is_name(self.name) & is_between(-POWER, POWER, self.demand.0)
+        is_name(self.name) & is_between(-POWER_LIMIT, POWER_LIMIT, self.demand.0)
     }
 }
 
@@ -72,14 +71,15 @@ impl Ranged for BranchRow {
             & is_name(self.name.to)
             & is_between(1, SUSCEPTANCE, self.susceptance)
             & is_between(-SHIFT, SHIFT, self.shift.0)
-            & is_between(0, POWER, self.rating.0)
+            & is_between(0, POWER_LIMIT, self.rating.0)
             & is_between(-DIFFERENCE, DIFFERENCE, self.angmin.0)
             & is_between(-DIFFERENCE, DIFFERENCE, self.angmax.0)
     }
 }
 
 impl BusRow {
-    // The bus of the row, or none where a number is outside its range.
+    // The bus of the row, or none where a number is outside its range. (An option, not a `TryFrom`: its error would have one value, and
+    // which row it stands in only the caller knows.)
     pub fn bus(&self) -> Option<Bus>
         ensures { MatchOption result (BusInRange self.now → ⊥) (λ b. BusOf self.now b) }
     {
@@ -101,7 +101,8 @@ impl BranchRow {
         self.angmin.0 > self.angmax.0
     }
 
-    // The branch of the row between the buses in those rows, or none where a number is outside its range or the limits are crossed.
+    // The branch of the row between the buses in those rows, or none where a number is outside its range or the limits are crossed. (An
+    // option here too, and a `TryFrom` would have no room for the ends.)
     pub fn branch(&self, ends: Ends) -> Option<Branch>
         ensures { MatchOption result (BranchInRange self.now → (CrossedLimits self.now → ⊥) → ⊥) (λ b. BranchOf self.now ends b) }
     {

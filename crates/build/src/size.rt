@@ -25,8 +25,7 @@ pub(crate) fn counts<M, N>(rows: &Rows<M, N>, room: &Room) -> Option<Counts>
         rows.branches.len(),
     );
     let small = is_between(0, TOLERANCE, rows.tolerance.0)
-        & (1 <= buses)
-        & (buses <= BUSES)
+        & (1..=BUSES).contains(&buses)
         & (first <= MACHINES)
         & (second <= MACHINES)
         & (branches <= BRANCHES);
@@ -34,6 +33,7 @@ pub(crate) fn counts<M, N>(rows: &Rows<M, N>, room: &Room) -> Option<Counts>
         & (first <= room.first)
         & (second <= room.second)
         & (branches <= room.branches);
+    // Each number is within 8 bits by the test: `try_from` would give up at a place that is never reached.
     if small & fits {
         Some(Counts {
             buses: buses as u8,

@@ -1,31 +1,38 @@
 -- Rows found by name: where they stand, when their names are distinct, and that then no other row has the name.
-use Rattle.std.proofs.Common.{◌≡◌, ℕ, ◌<◌, List, length, Some, None, Option, sym, refl, ap, ◌∙◌, subst, arith}
+use Rattle.std.proofs.Common.{◌≡◌, ℕ, ◌<◌, Bool, false, Decides, List, Some, None, Option, sym, refl, ◌∙◌, subst, arith}
 use native.Mathlib.Decide.{dec_lt}
+use Rattle.std.proofs.lemmas.Bool.{false≢true}
+use Rattle.std.specs.Option.{MatchOption}
 use Rattle.measure.specs.Rows.{HoldsAt, Stands, Lowest}
-use Rattle.measure.proofs.Sums.{stands_one, holds_below}
-use Rattle.names.specs.declared.branch.BranchName.{BranchName}
-use Rattle.names.specs.Names.{Sameness, HasName, Repeats, Distinct}
+use Rattle.measure.proofs.Sums.{stands_one}
+use Rattle.names.specs.Names.{Sameness, HasName, NamedBefore, Repeats, Distinct}
 
 -- names that are the same where they are equal
 pub equality : {K : Type 0} → Sameness {K = K} ◌≡◌
 equality = record { itself = λ x. refl; either_way = λ x y e. sym e; through = λ x y z e f. e ∙ f }
 
--- branch names are equal where their three numbers are
-pub branch_equal : (a b : BranchName) → a.circuit ≡ b.circuit → a.from ≡ b.from → a.to ≡ b.to → a ≡ b
-branch_equal a b c f t = λ i. record { circuit = c i; from = f i; to = t i }
-
-pub branch_numbers : (a b : BranchName) → a ≡ b → (a.circuit ≡ b.circuit) × (a.from ≡ b.from) × (a.to ≡ b.to)
-branch_numbers a b e = (ap (λ (n : BranchName). n.circuit) e, ap (λ (n : BranchName). n.from) e, ap (λ (n : BranchName). n.to) e)
-
 module _ {K R : Type 0} (same : K → K → Type 0) (name : R → K) (xs : List R) where
-  -- a row found is in the table
-  pub found_below : (k : K) (i : ℕ) → Lowest (HoldsAt (HasName same name k) xs) (Some i) → i < length xs
-  found_below k i f = holds_below (HasName same name k) xs i f.0
+  -- row i repeats an earlier one where a row before it has its name, and only there
+  pub repeats : (i : ℕ) (x : R) → Stands xs i x → NamedBefore same name (name x) xs i → Repeats same name xs i
+  repeats i x s n = record { item = x; stands = s; earlier = n.earlier; before = n.before; named = n.named }
 
-  -- row i does not repeat an earlier one where it is itself the lowest with its name
-  pub repeats_none : (i : ℕ) (x : R) → Stands xs i x → Lowest (HoldsAt (HasName same name (name x)) xs) (Some i) → Repeats same name xs i → ⊥
-  repeats_none i x s f p =
-      f.1 p.earlier p.before (subst (λ (y : R). HoldsAt (HasName same name (name y)) xs p.earlier) (stands_one xs i p.item x p.stands s) p.named)
+  pub named_before : (i : ℕ) (x : R) → Stands xs i x → Repeats same name xs i → NamedBefore same name (name x) xs i
+  named_before i x s p = record {
+    earlier = p.earlier;
+    before = p.before;
+    named = subst (λ (y : R). HoldsAt (HasName same name (name y)) xs p.earlier) (stands_one xs i p.item x p.stands s) p.named;
+  }
+
+  -- whether a row before row i has a name, by the lowest row that has it
+  pub before_found : (k : K) (i : ℕ) (t : Bool) (r : Option ℕ) → Lowest (HoldsAt (HasName same name k) xs) r → MatchOption r (t ≡ false) (λ j. Decides t (j < i)) → Decides t (NamedBefore same name k xs i)
+  before_found k i t None f e = (λ y. absurd (false≢true (sym e ∙ y)), λ n. absurd (f n.earlier n.named))
+  before_found k i t (Some j) f d = (
+    λ y. record { earlier = j; before = d.0 y; named = f.0 },
+    λ n. d.1 (elim (dec_lt j i) [
+      | yes h ↦ h
+      | no h ↦ let b = n.before in absurd (f.1 n.earlier (omega arith) n.named)
+    ]),
+  )
 
   -- where the names are distinct, no row repeats an earlier one
   pub distinct_repeats_none : Distinct same name xs → Lowest (Repeats same name xs) None
@@ -39,18 +46,6 @@ module _ {K R : Type 0} (same : K → K → Type 0) (name : R → K) (xs : List 
   distinct_is_none d (Some i) f = absurd (distinct_repeats_none d i f.0)
 
   module _ (law : Sameness same) where
-    -- row i repeats an earlier one unless it is itself the lowest with its name
-    pub repeats : (i : ℕ) (x : R) → Stands xs i x → (r : Option ℕ) → Lowest (HoldsAt (HasName same name (name x)) xs) r → (r ≡ Some i → ⊥) → Repeats same name xs i
-    repeats i x s None f other = absurd (f i (record { item = x; stands = s; holds = law.itself (name x) }))
-    repeats i x s (Some j) f other =
-        elim (dec_lt j i) [
-          | yes h ↦ record { item = x; stands = s; earlier = j; before = h; named = f.0 }
-          | no h ↦ elim (dec_lt i j) [
-            | yes k ↦ absurd (f.1 i k (record { item = x; stands = s; holds = law.itself (name x) }))
-            | no k ↦ let e : j ≡ i = omega arith in absurd (other (λ t. Some (e t)))
-          ]
-        ]
-
     -- no row repeats an earlier one: the names are distinct
     pub distinct : Lowest (Repeats same name xs) None → Distinct same name xs
     distinct none = record { one_row = one }

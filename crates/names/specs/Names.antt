@@ -12,6 +12,12 @@ pub record Sameness {K : Type 0} (same : K → K → Type 0) : Type 0 where
 abbrev pub HasName : {K R : Type 0} → (K → K → Type 0) → (R → K) → K → Row R → Type 0
 HasName same name k r = same (name r.item) k
 
+-- a row before row i has the name k
+pub record NamedBefore {K R : Type 0} (same : K → K → Type 0) (name : R → K) (k : K) (xs : List R) (i : ℕ) : Type 0 where
+  pub earlier : ℕ
+  pub before : earlier < i
+  pub named : HoldsAt (HasName same name k) xs earlier
+
 -- row i is in the table, and an earlier row has its name
 pub record Repeats {K R : Type 0} (same : K → K → Type 0) (name : R → K) (xs : List R) (i : ℕ) : Type 0 where
   pub item : R

@@ -1,6 +1,7 @@
 // The names of a table's rows.
+ghost use Rattle.std.specs.Prelude.{Decides};
 ghost use Rattle.measure.specs.Rows.{HoldsAt, Lowest};
-ghost use Rattle.names.specs.Names.{HasName, Repeats};
+ghost use Rattle.names.specs.Names.{HasName, NamedBefore, Repeats};
 
 use crate::name::{Name, Named};
 
@@ -15,23 +16,23 @@ impl<'a, R: Named> NameList<'a, R> {
     pub fn find(&self, sought: &R::Kind) -> Option<usize>
         ensures { Lowest (HoldsAt (HasName R.Kind.same R.name sought.now) self.now.rows.now) result }
     {
-        for (i, row) in self.rows.iter().enumerate() {
-            if row.name().is_same(sought) {
-                return Some(i);
-            }
-        }
-        None
+        self.rows.iter().position(|row| row.name().is_same(sought))
+    }
+
+    // Whether a row before that one has the name.
+    fn has_before(&self, row: usize, sought: &R::Kind) -> bool
+        ensures { Decides result (NamedBefore R.Kind.same R.name sought.now self.now.rows.now row) }
+    {
+        self.find(sought).is_some_and(|found| found < row)
     }
 
     // The lowest row whose name an earlier row has, or none.
     pub fn repeated(&self) -> Option<usize>
         ensures { Lowest (Repeats R.Kind.same R.name self.now.rows.now) result }
     {
-        for (i, row) in self.rows.iter().enumerate() {
-            if self.find(&row.name()) != Some(i) {
-                return Some(i);
-            }
-        }
-        None
+        self.rows
+            .iter()
+            .enumerate()
+            .position(|(i, row)| self.has_before(i, &row.name()))
     }
 }

@@ -2,7 +2,7 @@
 ghost use Rattle.std.specs.Prelude.{◌≡◌, Decides};
 ghost use Rattle.names.specs.Names.{Sameness};
 
-// A kind of name: its sameness is defined.
+// A kind of name: its sameness is defined. (`Eq` would leave it to a test: its laws don't say which two names are the same.)
 pub trait Name: Copy {
     // which two are the same name
     ghost same: { Self → Self → Type 0 };

@@ -7,5 +7,4 @@ pub mod Flows
 pub mod Duality
 pub mod Counted
 pub mod Nodal
-pub mod Used
 pub mod Pinned

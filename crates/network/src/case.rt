@@ -10,6 +10,8 @@ pub const POWER_LIMIT: i64 = 100_000_000;
 pub const ANGLE_LIMIT: i64 = 3_200_000;
 
 // Machines of one kind: a table, of which the first rows are the case's, and the row of each one's bus.
+// Two tables with a count, not one slice of pairs: machines and places are lent apart, each with room for more rows than the case has, and
+// a count of 8 bits bounds every sum over the machines with nothing asked of a caller.
 #[derive_where(Clone, Copy)]
 pub struct Machines<'a, M> {
     pub rows: &'a [M],
@@ -23,22 +25,19 @@ impl<'a, M> Machines<'a, M> {
         ensures exact { result.now ≡ take self.now.count self.now.rows.now }
         ensures few { length result.now ≤ 255 }
     {
-        &self.rows[0..rows_used(self.rows, self.count) as usize]
+        first_rows(self.rows, self.count)
     }
 
     // The row of the bus of the machine in that row; 0, the reference, where the table of places ends before it.
     pub fn place(&self, row: usize) -> u8
         ensures { result ≡ slice_index self.now.places.now row }
     {
-        if row < self.places.len() {
-            self.places[row]
-        } else {
-            0
-        }
+        self.places.get(row).copied().unwrap_or(0)
     }
 }
 
-// A case: the tolerance of the balance in watts, buses, machines of two kinds and branches. The first rows of each table are the case's.
+// A case: the tolerance of the balance in watts, buses, machines of two kinds and branches. The first rows of each table are the case's,
+// counted in 8 bits for the same reasons.
 #[derive_where(Clone, Copy)]
 pub struct Case<'a, M, N> {
     pub tolerance: u32,
@@ -54,20 +53,12 @@ pub struct Case<'a, M, N> {
 pub fn rows_used<T>(table: &[T], count: u8) -> u8
     ensures { result ≡ length (take count table.now) }
 {
-    if table.len() < count as usize {
-        table.len() as u8
-    } else {
-        count
-    }
+    first_rows(table, count).len() as u8
 }
 
 // The rows that the case has of a table.
 pub fn first_rows<T>(table: &[T], count: u8) -> &[T]
     ensures { result.now ≡ take count table.now }
 {
-    if table.len() < count as usize {
-        table
-    } else {
-        &table[0..count as usize]
-    }
+    table.get(..usize::from(count)).unwrap_or(table)
 }

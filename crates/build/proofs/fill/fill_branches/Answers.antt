@@ -1,25 +1,24 @@
-use Rattle.std.proofs.Common.{arith}
-use Rattle.build.proofs.Standing.{stands_at, joined}
-use Rattle.build.proofs.Filling.{filled_none, filled_more, filled_to}
+use Rattle.std.proofs.Common.{length, subst, rules, tests}
+use Rattle.build.specs.declared.rows.BranchRow.{BranchRow}
+use Rattle.build.specs.Raw.{BranchInRange, CrossedLimits}
+use Rattle.build.specs.Offer.{EndsUnknown}
+use Rattle.build.specs.Build.{Joined}
+use Rattle.build.proofs.Filling.{filled_as}
 use Rattle.build.proofs.fill.fill_branches.Goals as goal
 
-pub loop-i-init : goal.loop-i-init
-loop-i-init c = filled_none _ _ _
-
-pub unreachable-requires : goal.unreachable-requires
-unreachable-requires c =
-    c.requires.known c.loop-i.i (record { item = _; stands = stands_at c.args.rows.now c.loop-i.i _ c.loop-i-test.true; holds = c.in_default.ensures })
-
-pub unreachable-requires-in_default-branch : goal.unreachable-requires-in_default-branch
-unreachable-requires-in_default-branch c =
-    let stands = stands_at c.args.rows.now c.loop-i.i _ c.loop-i-test.true in
-    c.requires.ranges c.loop-i.i (record { item = _; stands = stands; holds = λ r. c.in_default-branch.ensures r (λ crossed. c.requires.uncrossed c.loop-i.i (record { item = _; stands = stands; holds = crossed })) })
-
-pub loop-i-preserved : goal.loop-i-preserved
-loop-i-preserved c =
-    filled_more _ _ _ c.loop-i.table c.loop-i.i _ c.in_Some-branch.branch (omega arith)
-    (stands_at c.args.rows.now c.loop-i.i _ c.loop-i-test.true)
-    (joined c.args.buses.now.rows.now _ c.in-Some.ends c.in_Some-branch.branch c.in-Some.ensures c.in_Some-branch.ensures) c.loop-i.invariant
+pub fill-requires-clause-whole : goal.fill-requires-clause-whole
+fill-requires-clause-whole c i x s k =
+    let none = λ (r : BranchRow). BranchInRange r → (CrossedLimits r → ⊥) → (EndsUnknown c.args.buses.now.rows.now r.name.from r.name.to → ⊥) → ⊥ in
+    let no_branch : none x = subst none k.shows (search (rules, tests)) in
+    c.requires.ranges i (record {
+      item = x;
+      stands = s;
+      holds = λ ranged. no_branch ranged
+          (λ crossed. c.requires.uncrossed i (record { item = x; stands = s; holds = crossed }))
+          (λ unknown. c.requires.known i (record { item = x; stands = s; holds = unknown }));
+    })
 
 pub returns : goal.returns
-returns c = filled_to _ _ _ _ _ _ (omega arith) c.loop-i.invariant
+returns c =
+    filled_as _ (Joined c.args.buses.now.rows.now) c.args.rows.now c.args.table.now c.fill.new.table (length c.args.rows.now)
+    (λ x y k. search (rules, tests)) c.fill.ensures

@@ -1,27 +1,16 @@
-use Rattle.std.proofs.Common.{subst, arith}
-use Rattle.measure.proofs.Sums.{stands_read, holds_below}
-use Rattle.build.specs.Offer.{Lacks, Found}
-use Rattle.build.proofs.Filling.{filled_none, filled_more, filled_to}
+use Rattle.std.proofs.Common.{length, subst, rules, tests}
+use Rattle.build.specs.Offer.{Lacks}
+use Rattle.build.specs.Build.{Placed}
+use Rattle.build.proofs.Filling.{filled_as}
 use Rattle.build.proofs.fill.fill_places.Goals as goal
 
-pub loop-i-init : goal.loop-i-init
-loop-i-init g c = filled_none _ _ _
-
-pub unreachable-requires : goal.unreachable-requires
-unreachable-requires g c =
-    let machine = c.index-machines-i.result in
-    let stands = stands_read c.args.machines.now c.loop-i.i machine c.loop-i-test.true c.index-machines-i.is in
-    c.requires.known c.loop-i.i (record { item = machine; stands = stands; holds = subst (Lacks c.args.buses.now.rows.now) c.bus.ensures c.in_default.ensures })
-
-pub overflow_cast-table : goal.overflow_cast-table
-overflow_cast-table g c = omega (arith, c.requires.few, holds_below _ c.args.buses.now.rows.now c.in-Some.row c.in-Some.ensures.0)
-
-pub loop-i-preserved : goal.loop-i-preserved
-loop-i-preserved g c =
-    let machine = c.index-machines-i.result in
-    let stands = stands_read c.args.machines.now c.loop-i.i machine c.loop-i-test.true c.index-machines-i.is in
-    filled_more _ _ _ c.loop-i.table c.loop-i.i machine c.in-Some.row (omega arith) stands
-    (subst (λ k. Found c.args.buses.now.rows.now k c.in-Some.row) c.bus.ensures c.in-Some.ensures) c.loop-i.invariant
+pub fill-requires-clause-whole : goal.fill-requires-clause-whole
+fill-requires-clause-whole g c i x s k =
+    let lacks : Lacks c.args.buses.now.rows.now (g.M.Machine.meaning.bus k.shown.now) = search (rules, tests) in
+    c.requires.known i (record { item = x; stands = s; holds = subst (λ m. Lacks c.args.buses.now.rows.now (g.M.Machine.meaning.bus m)) k.shows lacks })
 
 pub returns : goal.returns
-returns g c = filled_to _ _ _ _ _ _ (omega arith) c.loop-i.invariant
+returns g c =
+    let placed = Placed g.M.Machine.meaning c.args.buses.now.rows.now in
+    filled_as _ placed c.args.machines.now c.args.table.now c.fill.new.table (length c.args.machines.now)
+    (λ x y k. subst (λ m. placed m y) k.shows (search (rules, tests))) c.fill.ensures

@@ -1,27 +1,22 @@
-use Rattle.std.proofs.Common.{◌≡◌, Some, arith, rules, below_more}
-use Rattle.measure.proofs.Sums.{stands_read, stands_below}
-use Rattle.names.proofs.Tables.{repeats, repeats_none}
+use Rattle.std.proofs.Common.{ℕ, rules, tests}
+use Rattle.std.proofs.lemmas.Iterator.{IsFirst-from_position, YieldsList-from_slice}
+use Rattle.std.proofs.lemmas.Iterator.Consumers.{YieldsList-from_enumerate}
+use Rattle.measure.proofs.Sums.{stands_below}
+use Rattle.names.specs.Names.{NamedBefore, Repeats}
+use Rattle.names.proofs.First.{lowest_numbered}
+use Rattle.names.proofs.Tables.{repeats, named_before}
 use Rattle.names.proofs.list.NameList.repeated.Goals as goal
 
-pub returns-then-ne : goal.returns-then-ne
-returns-then-ne g c =
-    let xs = c.args.self.now.rows.now in
-    let row = c.row-item.result in
-    let stands = stands_read xs c.loop-i.i row c.loop-i-test.true c.row-item.is in
-    let other : (c.find.result ≡ Some c.loop-i.i → ⊥) = λ e. search rules in (
-      repeats _ _ xs g.met.R.Kind.Name.sameness c.loop-i.i row stands _ (simp c.name.ensures at c.find.ensures) other,
-      c.loop-i.invariant,
-    )
-
-pub loop-i-preserved : goal.loop-i-preserved
-loop-i-preserved g c =
-    let xs = c.args.self.now.rows.now in
-    let row = c.row-item.result in
-    let stands = stands_read xs c.loop-i.i row c.loop-i-test.true c.row-item.is in
-    let itself : c.find.result ≡ Some c.loop-i.i = search rules in
-    below_more _ _ c.loop-i.invariant (repeats_none _ _ xs c.loop-i.i row stands (simp (c.name.ensures, itself) at c.find.ensures))
-
 pub returns : goal.returns
-returns g c i h =
-    let b = stands_below c.args.self.now.rows.now i h.item h.stands in
-    c.loop-i.invariant i (omega arith) h
+returns g c =
+    let rows = c.args.self.now.rows.now in
+    let same = g.R.Kind.Name.same in
+    let name = g.R.Named.name in
+    let before = λ (p : ℕ × g.row.R.Denot). NamedBefore same name (name p.1) rows p.0 in
+    lowest_numbered rows before (λ p. before p → ⊥) (Repeats same name rows)
+    (λ i x s y. repeats same name rows i x s y)
+    (λ i x s n r. n (named_before same name rows i x s r))
+    (λ i r. stands_below rows i r.item r.stands)
+    c.position.result
+    (IsFirst-from_position _ _ _ before (λ p. before p → ⊥) c.position.ensures.ran (YieldsList-from_enumerate (YieldsList-from_slice rows cc) cc)
+    (λ x q k. search (rules, tests)) (λ x q k. search (rules, tests)))

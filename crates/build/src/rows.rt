@@ -12,14 +12,14 @@ use network::bus::Bus;
 use network::case::POWER_LIMIT;
 
 // A bus as it is offered: any numbers may stand in it.
-#[derive(Clone, Copy)]
+#[derive(Clone, Copy, Default)]
 pub struct BusRow {
     pub name: u32,
     pub demand: Watts,
 }
 
 // A branch as it is offered: any numbers may stand in it.
-#[derive(Clone, Copy)]
+#[derive(Clone, Copy, Default)]
 pub struct BranchRow {
     pub name: BranchName,
     pub susceptance: i64,

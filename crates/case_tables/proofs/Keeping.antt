@@ -1,21 +1,12 @@
 -- Rows kept one after another.
-use Rattle.std.proofs.Common.{◌≡◌, ℕ, zero, suc, ◌+◌, ◌-◌, ◌<◌, Bool, true, false, cond, eqb, List, [], ◌∷◌, ◌++◌, map, length, set, replicate, ℤ, pos, sym, refl, ap, ◌∙◌, subst, arith}
-use Rattle.std.proofs.lemmas.List.{append_assoc, length_push, length-append, length-replicate, take_more_set, map_push, set-append_right}
+use Rattle.std.proofs.Common.{◌≡◌, ℕ, zero, suc, ◌+◌, ◌-◌, ◌<◌, Bool, true, false, cond, eqb, List, [], ◌∷◌, ◌++◌, map, length, set, replicate, ℤ, pos, sym, refl, ap, ◌∙◌, arith}
+use Rattle.std.proofs.lemmas.List.{append_assoc, length_push, length-append, length-replicate, map_push, set-append_right}
 use Rattle.word.specs.Slot.{Matches}
 use Rattle.word.proofs.Slots.{matches_length}
 use Rattle.case_paper.specs.Case.{rank, Record, amounts_of, power_slot, price_slot}
 use Rattle.case_paper.specs.Rows.{of_rank}
 use Rattle.case_paper.specs.declared.sort.Sort.TheVariants as sort
 use Rattle.case_tables.specs.Rows.{padded}
-use Rattle.case_tables.specs.Held.{Lists}
-
--- one row more
-pub lists_more : {T : Type 0} (rows : List T) (count : ℕ) (row : T) (xs : List T) → count < length rows → Lists rows count xs → Lists (set rows count row) (count + 1) (xs ++ (row ∷ []))
-lists_more {T = T} rows count row xs h l =
-    record {
-      first = take_more_set rows count row h ∙ ap (λ (ys : List T). ys ++ (row ∷ [])) l.first;
-      counted = ap (λ (n : ℕ). n + 1) l.counted ∙ sym (length_push xs row);
-    }
 
 zeros_front : (m : ℕ) (z : ℤ) → 0 < m → set (replicate m (pos 0)) 0 z ≡ z ∷ replicate (m - 1) (pos 0)
 zeros_front zero z h = absurd (omega arith)
@@ -50,22 +41,24 @@ pub of_rank_other : (k : ℕ) (rs : List Record) (r : Record) → eqb (rank r.so
 of_rank_other k [] r e = ap (λ (b : Bool). cond b (r ∷ []) []) e
 of_rank_other k (t ∷ rs) r e = ap (λ (ys : List Record). cond (eqb (rank t.sort) k) (t ∷ ys) ys) (of_rank_other k rs r e)
 
-module _ {T : Type 0} (row : Record → T) (k : ℕ) (rs : List Record) (r : Record) (rows : List T) (count : ℕ) where
+module _ {T : Type 0} (row : Record → T) (k : ℕ) (rs : List Record) (r : Record) (items : List T) (h : items ≡ map row (of_rank k rs)) where
   -- the record is of the sort, and its row comes last
-  pub lists_same : eqb (rank r.sort) k ≡ true → Lists rows count (map row (of_rank k rs) ++ (row r ∷ [])) → Lists rows count (map row (of_rank k (rs ++ (r ∷ []))))
-  lists_same e = subst (Lists rows count) (sym (ap (map row) (of_rank_same k rs r e) ∙ map_push row (of_rank k rs) r))
+  pub rows_same : eqb (rank r.sort) k ≡ true → (items' : List T) → items' ≡ items ++ (row r ∷ []) → items' ≡ map row (of_rank k (rs ++ (r ∷ [])))
+  rows_same e items' g =
+      g ∙ ap (λ (xs : List T). xs ++ (row r ∷ [])) h
+      ∙ sym (ap (map row) (of_rank_same k rs r e) ∙ map_push row (of_rank k rs) r)
 
   -- the record is of another sort
-  pub lists_other : eqb (rank r.sort) k ≡ false → Lists rows count (map row (of_rank k rs)) → Lists rows count (map row (of_rank k (rs ++ (r ∷ []))))
-  lists_other e = subst (Lists rows count) (sym (ap (map row) (of_rank_other k rs r e)))
+  pub rows_other : eqb (rank r.sort) k ≡ false → items ≡ map row (of_rank k (rs ++ (r ∷ [])))
+  rows_other e = h ∙ sym (ap (map row) (of_rank_other k rs r e))
 
 -- how many amounts a machine with n points has
-pub stepped-size : (n : ℕ) → length (amounts_of (sort.Stepped n)) ≡ 3 + n + (n - 1)
-stepped-size n =
+pub stepped_size : (n : ℕ) → length (amounts_of (sort.Stepped n)) ≡ 3 + n + (n - 1)
+stepped_size n =
     let a = length-append (replicate (3 + n) power_slot) (replicate (n - 1) price_slot) in
     let b = length-replicate (3 + n) power_slot in
     let d = length-replicate (n - 1) price_slot in
     omega arith
 
 pub stepped-long : (n : ℕ) (xs : List ℕ) → Matches (amounts_of (sort.Stepped n)) xs → length xs ≡ 3 + n + (n - 1)
-stepped-long n xs m = matches_length (amounts_of (sort.Stepped n)) xs m ∙ stepped-size n
+stepped-long n xs m = matches_length (amounts_of (sort.Stepped n)) xs m ∙ stepped_size n

@@ -1,6 +1,8 @@
 -- What is offered is the case that was read, and the tables then hold it.
 use Rattle.std.proofs.Common.{◌≡◌, ℕ, ◌≤◌, List, ◌++◌, length, get_or, take, drop, ℤ, pos, negsuc, nat_abs, ◌≤ℤ◌, sym, refl, ap, ◌∙◌, subst, arith, w64, SFits, to_z, of_z}
+use Rattle.std.proofs.Common.{Result, Ok, Err}
 use Rattle.std.specs.List.{flat_map}
+use Rattle.std.specs.Result.{MatchResult, IsErrAnd}
 use Rattle.std.proofs.lemmas.List.{get_or_append_left, take_at, take_all}
 use Rattle.std.proofs.lemmas.Int.{ints, to_z-of_z}
 use Rattle.word.specs.Word.{amount_of}
@@ -12,20 +14,18 @@ use Rattle.curved.specs.Quadratic.{curved_meaning}
 use Rattle.curved.specs.declared.curved.Curved.{Curved}
 use Rattle.build.specs.declared.tables.Rows.{Rows}
 use Rattle.build.specs.Offer.{Refused}
-use Rattle.build.specs.Build.{room_of, Lent, Laid, WellFormed, laid_case}
+use Rattle.build.specs.Build.{room_of, Lent, Laid, NotLaid, WellFormed, laid_case}
 use Rattle.case_paper.specs.Case as the
 use Rattle.case_paper.specs.Case.{head_slots, record_words, end_word, CaseForm}
 use Rattle.case_paper.specs.CaseFault.{LawfulCase, RefusedRead}
 use Rattle.case_paper.specs.Rows.{tolerance_of}
-use Rattle.case_paper.specs.declared.sort.Sort.TheVariants as sort
 use Rattle.case_paper.specs.declared.fault.CaseFault.{CaseFault}
 use Rattle.case_paper.specs.declared.fault.CaseFault.TheVariants.{Record, Repeats, Lacks}
 use Rattle.case_tables.specs.declared.read.ReadCase.{ReadCase}
 use Rattle.case_tables.specs.declared.rows.CaseRows.{CaseRows}
-use Rattle.case_tables.specs.Rows.{bus_row, stepped_row, curved_row, branch_row, Offers}
-use Rattle.case_tables.specs.Held.{Holds, InPlace, CountedCase}
-use Rattle.case_tables.specs.Read.{Tables, tables, rows_provided, laid_in, Offered, Written, held_case, CaseRead, Unread, Reported}
-use Rattle.case_tables.proofs.Sizes.{rows-length, count_most}
+use Rattle.case_tables.specs.Rows.{Offers}
+use Rattle.case_tables.specs.Held.{Holds, CountedCase}
+use Rattle.case_tables.specs.Read.{Tables, tables, rows_provided, laid_in, Offered, Written, held_case, CaseRead, Unread, NotRead, Reported}
 use Rattle.case_tables.proofs.Ranges.{first_count, second_count}
 
 -- a number from 0 on is its size
@@ -39,12 +39,21 @@ refused_for w t (Record g) r = r
 refused_for w t (Repeats row) r = absurd r
 refused_for w t (Lacks row) r = absurd r
 
+-- ---- a result whose errors are told otherwise: its value, and the error that is told
+pub value_told : {T E F : Type 0} (r : Result T E) (s : Result T F) (R : E → F → Type 0) (x : T) → s ≡ Ok x → MatchResult r (λ y. s ≡ Ok y) (λ e. IsErrAnd s (R e)) → r ≡ Ok x
+value_told (Ok y) s R x e k = cc
+value_told (Err d) s R x e k = absurd (subst (λ v. IsErrAnd v (R d)) e k)
+
+pub error_told : {T E F : Type 0} (r : Result T E) (s : Result T F) (P : T → Type 0) (Q : E → Type 0) (R : E → F → Type 0) (f : F) → s ≡ Err f → MatchResult r (λ y. s ≡ Ok y) (λ e. IsErrAnd s (R e)) → MatchResult r P Q → (e : E) × (R e f × Q e)
+error_told (Ok y) s P Q R f e k h = absurd (subst (λ v. IsErrAnd v (λ g. g ≡ f)) (sym e ∙ k) refl)
+error_told (Err d) s P Q R f e k h = (d, (subst (λ v. IsErrAnd v (R d)) e k, h))
+
 -- the tables that are laid by names are as they were, and so are all
-pub untouched : (t : Tables) (b : Lent) → b ≡ laid_in t → tables b.buses t.stepped b.first t.curved b.second b.branches ≡ t
+untouched : (t : Tables) (b : Lent) → b ≡ laid_in t → tables b.buses t.stepped b.first t.curved b.second b.branches ≡ t
 untouched t b e = ap (λ (k : Lent). tables k.buses t.stepped k.first t.curved k.second k.branches) e
 
 -- the fault that is reported for a refusal of what is offered
-pub reported_unread : (w : List ℕ) (t : Tables) (l : LawfulCase (rows_provided t) w) (o : Rows Stepped Curved) → Offered l.form o → (e : Refusal) → Refused stepped_meaning curved_meaning o (room_of (laid_in t)) e → (f : CaseFault) → Reported e f → Unread w t f
+reported_unread : (w : List ℕ) (t : Tables) (l : LawfulCase (rows_provided t) w) (o : Rows Stepped Curved) → Offered l.form o → (e : Refusal) → Refused stepped_meaning curved_meaning o (room_of (laid_in t)) e → (f : CaseFault) → Reported e f → Unread w t f
 reported_unread w t l o offers e r (Record f) is = absurd is
 reported_unread w t l o offers e r (Repeats row) is = record { lawful = l; offer = o; offered = offers; refused = subst (Refused stepped_meaning curved_meaning o (room_of (laid_in t))) is r }
 reported_unread w t l o offers e r (Lacks row) is = record { lawful = l; offer = o; offered = offers; refused = subst (Refused stepped_meaning curved_meaning o (room_of (laid_in t))) is r }
@@ -65,22 +74,15 @@ module _ (w : List ℕ) (t : Tables) (l : LawfulCase (rows_provided t) w) where
   offered u holds o z fits e offers =
       subst (λ (x : ℤ). Offers x l.form.records o) (to_z-of_z w64 z fits ∙ e ∙ tolerance_word) (offers l.form.records (holds l.form))
 
-  -- the rows have their places
-  pub in_place : (u : CaseRows) → Holds u l.form.records → InPlace u
-  in_place u k =
-      let h = l.form.head in
-      let rs = l.form.records in
-      let b = k.buses.counted ∙ rows-length bus_row 0 rs in
-      let s = k.stepped.counted ∙ rows-length stepped_row 1 rs in
-      let c = k.curved.counted ∙ rows-length curved_row 2 rs in
-      let r = k.branches.counted ∙ rows-length branch_row 3 rs in
-      let b-most = count_most h rs sort.Bus l.form.headed l.met in
-      let s-most = count_most h rs (sort.Stepped 0) l.form.headed l.met in
-      let c-most = count_most h rs sort.Curved l.form.headed l.met in
-      let r-most = count_most h rs sort.Branch l.form.headed l.met in
-      record { buses = omega arith; stepped = omega arith; curved = omega arith; branches = omega arith }
-
   module _ (o : Rows Stepped Curved) (f : Offered l.form o) where
+    -- what is offered is refused: nothing is laid, and the case is not read
+    pub not_read : (b : Lent) (v : CaseFault) → ((e : Refusal) × (Reported e v × NotLaid stepped_meaning curved_meaning o (laid_in t) b e)) → NotRead w t (tables b.buses t.stepped b.first t.curved b.second b.branches) v
+    not_read b v n =
+        record {
+          refused = reported_unread w t l o f n.0 n.1.1.refused v n.1.0;
+          untouched = untouched t b n.1.1.untouched;
+        }
+
     -- the lent tables have room for the machines
     pub first_room : length o.first.now ≤ length t.stepped
     first_room = let a = first_count w t l o f in let b = l.fitting 1 (omega arith) in omega arith

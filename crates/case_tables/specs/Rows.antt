@@ -5,6 +5,7 @@ use Rattle.case_paper.specs.Case.{Record}
 use Rattle.case_paper.specs.Order.{amount_at}
 use Rattle.case_paper.specs.Rows.{of_rank}
 use Rattle.case_paper.specs.declared.sort.Sort.{Sort}
+use Rattle.paper.specs.Name.{branch_of}
 use Rattle.names.specs.declared.branch.BranchName.{BranchName}
 use Rattle.build.specs.declared.rows.BusRow.{BusRow}
 use Rattle.build.specs.declared.rows.BranchRow.{BranchRow}
@@ -55,7 +56,7 @@ curved_row r =
 
 -- 65536 × the circuit + 256 × the bus it leaves + the bus it enters
 abbrev pub branch_name : ℕ → BranchName
-branch_name first = record { circuit = payload_of first / 65536; from = payload_of first / 256 % 256; to = payload_of first % 256 }
+branch_name first = branch_of first
 
 -- a branch name; susceptance, shift, rating, limits of the angle difference, service mark
 abbrev pub branch_row : Record → BranchRow

@@ -2,7 +2,6 @@
 #![tactic(auto)]
 
 pub mod laws;
-mod list;
 pub mod read;
 mod record;
 mod rows;

@@ -42,7 +42,7 @@ fn rows_provided(
     ]
 }
 
-// The fault of a case whose rows keep their ranges, orders and sizes.
+// The fault of a case whose rows keep their ranges, orders and sizes. Not a `TryFrom`: of such rows only the names are refused, so it never fails.
 fn name_fault(refusal: Refusal) -> CaseFault
     requires { OfNames refusal }
     ensures { Reported refusal result }
@@ -78,10 +78,7 @@ fn lay_case(
     let rows = read_rows(words);
     let tolerance = amount(words[1]);
     let offer = rows.offer(Watts(tolerance));
-    let counts = match lay(&offer, buses, first, second, branches) {
-        Ok(counts) => counts,
-        Err(refusal) => return Err(name_fault(refusal)),
-    };
+    let counts = lay(&offer, buses, first, second, branches).map_err(name_fault)?;
     write_rows(offer.first, stepped);
     write_rows(offer.second, curved);
     Ok(ReadCase {

@@ -3,12 +3,12 @@ ghost use Rattle.std.specs.Prelude.{◌≡◌, ◌+◌, ◌-◌, ◌/◌, ◌≤
 ghost use Rattle.word.specs.Word.{payload_of, amount_of};
 ghost use Rattle.case_paper.specs.Case.{amounts_of};
 ghost use Rattle.case_paper.specs.declared.sort.Sort.TheVariants as sort;
-ghost use Rattle.case_tables.specs.Rows.{padded, record_of, bus_row, stepped_row, curved_row, branch_name, branch_row};
+ghost use Rattle.case_tables.specs.Rows.{padded, record_of, bus_row, stepped_row, curved_row, branch_row};
 
 use build::rows::{BranchRow, BusRow};
 use curved::curved::Curved;
 use measure::{Microradians, Watts};
-use names::branch::BranchName;
+use paper::name::branch_name;
 use stepped::stepped::Stepped;
 use word::amount::amount;
 use word::kind::payload;
@@ -19,8 +19,8 @@ fn amounts_in<const N: usize>(words: &[u32]) -> [i64; N]
     ensures { result ≡ padded N (map amount_of words.now) }
 {
     let mut amounts = [0; N];
-    for i in 0..words.len() {
-        amounts[i] = amount(words[i]);
+    for (i, word) in words.iter().enumerate() {
+        amounts[i] = amount(*word);
     }
     amounts
 }
@@ -66,18 +66,6 @@ pub(crate) fn curved_row(first: u32, amounts: &[u32]) -> Curved
         c0: amount(amounts[2]),
         c1: amount(amounts[3]),
         c2: amount(amounts[4]),
-    }
-}
-
-// The name that a branch record's first word gives.
-fn branch_name(first: u32) -> BranchName
-    ensures { result ≡ branch_name first }
-{
-    let name = payload(first);
-    BranchName {
-        circuit: name / 65536,
-        from: name / 256 % 256,
-        to: name % 256,
     }
 }
 

@@ -10,7 +10,7 @@ use network::bus::Bus;
 use network::case::{Case, Machines};
 use stepped::stepped::Stepped;
 
-// A view of the case in the tables that it was read into.
+// A view of the case in the tables that it was read into. Not by build's view: that one asks for a tolerance in its range, and a `ReadCase` may hold any.
 pub fn view<'a>(
     read: ReadCase,
     buses: &'a [Bus],

@@ -7,6 +7,7 @@ use crate::rows::CaseRows;
 use case_paper::sort::Sort;
 
 // How many amounts a record of the sort has.
+#[tactic(auto, using(crate::proofs::Keeping::stepped_size))]
 fn amount_count(sort: Sort) -> usize
     requires { length (amounts_of sort) ≤ 18 }
     ensures { result ≡ length (amounts_of sort) }
@@ -25,12 +26,12 @@ pub(crate) fn read_rows(words: &[u32]) -> CaseRows
     ensures { (c : CaseForm words.now) → Holds result c.records }
 {
     let mut rows = CaseRows::empty();
-    let mut place = 6;
-    while place + 1 < words.len() {
-        let sort = Sort::of(words[place]);
-        let end = place + 1 + amount_count(sort);
-        rows.push(sort, words[place], &words[place + 1..end]);
-        place = end;
+    let mut records = &words[6..words.len() - 1];
+    while let [first, rest @ ..] = records {
+        let sort = Sort::of(*first);
+        let (amounts, later) = rest.split_at(amount_count(sort));
+        rows.push(sort, *first, amounts);
+        records = later;
     }
     rows
 }

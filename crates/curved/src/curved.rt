@@ -12,7 +12,7 @@ use measure::{Grains, Watts};
 
 // It may run at every power from lo to hi. Its cost at p watts is 1,000,000 c0 + c1 p + c2 p p / 1,000,000 grains per hour. Any numbers may stand in a
 // row: one that breaks a range stands idle.
-#[derive(Clone, Copy, PartialEq, Eq, Debug)]
+#[derive(Clone, Copy, PartialEq, Eq, Debug, Default)]
 pub struct Curved {
     pub bus: u32,
     pub lo: Watts,

@@ -8,11 +8,11 @@ pub mod range;
 pub mod rows;
 
 // A power in watts.
-#[derive(Clone, Copy, PartialEq, Eq, PartialOrd, Ord, Debug)]
+#[derive(Clone, Copy, PartialEq, Eq, PartialOrd, Ord, Debug, Default)]
 pub struct Watts(pub i64);
 
 // An angle in microradians.
-#[derive(Clone, Copy, PartialEq, Eq, PartialOrd, Ord, Debug)]
+#[derive(Clone, Copy, PartialEq, Eq, PartialOrd, Ord, Debug, Default)]
 pub struct Microradians(pub i64);
 
 // A cost in grains per hour.

@@ -5,7 +5,7 @@ ghost use Rattle.std.proofs.Common.{rules};
 use crate::name::Name;
 
 // A branch by its circuit and the buses that it leaves and enters: with its ends reversed it is another name.
-#[derive(Clone, Copy, PartialEq, Eq, Debug)]
+#[derive(Clone, Copy, PartialEq, Eq, Debug, Default)]
 pub struct BranchName {
     pub circuit: u32,
     pub from: u32,

@@ -14,7 +14,7 @@ use measure::{Grains, Watts};
 // It may run at every power from lo to hi. Its cost is c millions of grains per hour at the first of its n points, and from there on goes by its n - 1 slopes: a slope
 // in grains per watt-hour for each two neighbouring points in watts, the first and the last going on outside. What stands after them is not used. Any
 // numbers may stand in a row: one that breaks a range stands idle.
-#[derive(Clone, Copy, PartialEq, Eq, Debug)]
+#[derive(Clone, Copy, PartialEq, Eq, Debug, Default)]
 pub struct Stepped {
     pub bus: u32,
     pub lo: Watts,

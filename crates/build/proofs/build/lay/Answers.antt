@@ -6,34 +6,17 @@ use Rattle.build.specs.Raw.{BusOf}
 use Rattle.build.specs.Build.{Placed, Joined, Laid, lent}
 use Rattle.build.proofs.build.lay.Goals as goal
 
-pub fill_places-requires : goal.fill_places-requires
-fill_places-requires g c =
-    let a = c.in_ok-counts.ensures.0 in
-    record {
-      known = first_known g.M.Machine.meaning g.N.Machine.meaning c.args.rows.now a.known;
-      room = a.sizes.first_room;
-    }
+pub fill_places-requires-clause-known : goal.fill_places-requires-clause-known
+fill_places-requires-clause-known g c = first_known g.M.Machine.meaning g.N.Machine.meaning c.args.rows.now c.in_ok-counts.ensures.0.known
 
-pub fill_places-requires-2 : goal.fill_places-requires-2
-fill_places-requires-2 g c =
-    let a = c.in_ok-counts.ensures.0 in
-    record {
-      known = second_known g.M.Machine.meaning g.N.Machine.meaning c.args.rows.now a.known;
-      room = a.sizes.second_room;
-    }
+pub fill_places-requires-2-clause-known : goal.fill_places-requires-2-clause-known
+fill_places-requires-2-clause-known g c = second_known g.M.Machine.meaning g.N.Machine.meaning c.args.rows.now c.in_ok-counts.ensures.0.known
 
-pub fill_branches-requires : goal.fill_branches-requires
-fill_branches-requires g c =
-    let a = c.in_ok-counts.ensures.0 in
-    record {
-      ranges = a.ranges.branches;
-      uncrossed = a.uncrossed;
-      known = branches_known g.M.Machine.meaning g.N.Machine.meaning c.args.rows.now a.known;
-      room = a.sizes.branch_room;
-    }
+pub fill_branches-requires-clause-known : goal.fill_branches-requires-clause-known
+fill_branches-requires-clause-known g c = branches_known g.M.Machine.meaning g.N.Machine.meaning c.args.rows.now c.in_ok-counts.ensures.0.known
 
-pub returns : goal.returns
-returns g c =
+pub returns-clause-formed : goal.returns-clause-formed
+returns-clause-formed g c =
     let 𝓜 = g.M.Machine.meaning in
     let 𝓝 = g.N.Machine.meaning in
     let o = c.args.rows.now in
@@ -51,4 +34,4 @@ returns g c =
       second = filled_to (Placed 𝓝 names) o.second.now before.second after.second (length o.second.now) n.second a.1.second c.fill_places-2.ensures;
       branches = filled_to (Joined names) o.branches.now before.branches after.branches (length o.branches.now) n.branches a.1.branches c.fill_branches.ensures;
     } in
-    record { laid = done; formed = well_formed 𝓜 𝓝 o before after n done }
+    well_formed 𝓜 𝓝 o before after n done

@@ -1,8 +1,11 @@
 use Rattle.std.proofs.Common.{ℤ, pos, nat_abs, sym, ap, ◌∙◌}
-use Rattle.build.specs.Build.{lent}
-use Rattle.case_tables.specs.Read.{tables}
+use Rattle.std.proofs.lemmas.Result.{MatchResult-at_ok, MatchResult-at_err, IfOk-at_ok, err_from_is_err_and}
+use Rattle.stepped.specs.Piecewise.{stepped_meaning}
+use Rattle.curved.specs.Quadratic.{curved_meaning}
+use Rattle.build.specs.Build.{lent, Laid, NotLaid, WellFormed, laid_case}
+use Rattle.case_tables.specs.Read.{tables, laid_in, Reported}
 use Rattle.case_tables.proofs.Ranges.{of_names}
-use Rattle.case_tables.proofs.Reading.{reported_unread, untouched, counted_case, offered, in_place, first_room, second_room, from_zero, case_read}
+use Rattle.case_tables.proofs.Reading.{value_told, error_told, not_read, counted_case, offered, first_room, second_room, from_zero, case_read}
 use Rattle.case_tables.proofs.read.lay_case.Goals as goal
 
 pub read_rows-rows-requires : goal.read_rows-rows-requires
@@ -10,26 +13,20 @@ read_rows-rows-requires c =
     let t = tables c.args.buses.now c.args.stepped.now c.args.first.now c.args.curved.now c.args.second.now c.args.branches.now in
     counted_case c.args.words.now t c.requires
 
-pub offer-offer-requires : goal.offer-offer-requires
-offer-offer-requires c =
-    let t = tables c.args.buses.now c.args.stepped.now c.args.first.now c.args.curved.now c.args.second.now c.args.branches.now in
-    in_place c.args.words.now t c.requires c.read_rows-rows.result (c.read_rows-rows.ensures c.requires.form)
-
-pub name_fault-requires : goal.name_fault-requires
-name_fault-requires c =
+pub map_err-requires : goal.map_err-requires
+map_err-requires c e is =
     let t = tables c.args.buses.now c.args.stepped.now c.args.first.now c.args.curved.now c.args.second.now c.args.branches.now in
     let o = offered c.args.words.now t c.requires c.read_rows-rows.result c.read_rows-rows.ensures c.offer-offer.result c.amount-tolerance.result (record { sfits = c.amount-tolerance.type_inv }) c.amount-tolerance.ensures c.offer-offer.ensures in
-    of_names c.args.words.now t c.requires c.offer-offer.result o c.in-Err.refusal c.in-Err.ensures.laid.refused
+    of_names c.args.words.now t c.requires c.offer-offer.result o e (MatchResult-at_err _ (NotLaid stepped_meaning curved_meaning c.offer-offer.result (laid_in t) (lent c.lay.new.buses c.lay.new.first c.lay.new.second c.lay.new.branches)) e is c.lay.ensures.laid).refused
 
-pub returns-in-Err : goal.returns-in-Err
-returns-in-Err c =
+pub returns-in_err-counts : goal.returns-in_err-counts
+returns-in_err-counts c =
     let t = tables c.args.buses.now c.args.stepped.now c.args.first.now c.args.curved.now c.args.second.now c.args.branches.now in
     let o = offered c.args.words.now t c.requires c.read_rows-rows.result c.read_rows-rows.ensures c.offer-offer.result c.amount-tolerance.result (record { sfits = c.amount-tolerance.type_inv }) c.amount-tolerance.ensures c.offer-offer.ensures in
-    let n = c.in-Err.ensures.laid in
-    record {
-      refused = reported_unread c.args.words.now t c.requires c.offer-offer.result o c.in-Err.refusal n.refused c.name_fault.result c.name_fault.ensures;
-      untouched = untouched t (lent c.lay.new.buses c.lay.new.first c.lay.new.second c.lay.new.branches) n.untouched;
-    }
+    let p = err_from_is_err_and c.from_residual.result c.from_residual.ensures.1 in
+    rw (p.1, p.2)
+    (not_read c.args.words.now t c.requires c.offer-offer.result o (lent c.lay.new.buses c.lay.new.first c.lay.new.second c.lay.new.branches) c.in_err-counts.field-0.0
+    (error_told c.lay.result c.map_err.result _ _ Reported c.in_err-counts.field-0.0 c.in_err-counts.was c.map_err.ensures.cases c.lay.ensures.laid))
 
 pub write_rows-requires : goal.write_rows-requires
 write_rows-requires c =
@@ -48,7 +45,9 @@ returns c =
     let t = tables c.args.buses.now c.args.stepped.now c.args.first.now c.args.curved.now c.args.second.now c.args.branches.now in
     let o = offered c.args.words.now t c.requires c.read_rows-rows.result c.read_rows-rows.ensures c.offer-offer.result c.amount-tolerance.result (record { sfits = c.amount-tolerance.type_inv }) c.amount-tolerance.ensures c.offer-offer.ensures in
     let after = tables c.lay.new.buses c.write_rows.new.table c.lay.new.first c.write_rows-2.new.table c.lay.new.second c.lay.new.branches in
-    let laid = c.in-Ok.ensures.laid in
+    let is = value_told c.lay.result c.map_err.result Reported c.in_ok-counts.counts c.in_ok-counts.was c.map_err.ensures.cases in
+    let laid = MatchResult-at_ok (Laid stepped_meaning curved_meaning c.offer-offer.result (laid_in t) (laid_in after)) _ c.in_ok-counts.counts is c.lay.ensures.laid in
+    let formed = IfOk-at_ok (λ n. WellFormed stepped_meaning curved_meaning (laid_case c.offer-offer.result (laid_in after) n)) is c.lay.ensures.formed in
     let allows = (c.offer-offer.ensures c.requires.form.records (c.read_rows-rows.ensures c.requires.form)).allows in
     let whole = ap (λ (x : ℤ). pos (nat_abs x)) (sym allows) ∙ from_zero c.offer-offer.result.tolerance.0 laid.accepted.sizes.tolerance.0 in
-    case_read c.args.words.now t c.requires c.offer-offer.result o after _ laid whole c.write_rows.ensures c.write_rows-2.ensures c.in-Ok.ensures.formed
+    case_read c.args.words.now t c.requires c.offer-offer.result o after _ laid whole c.write_rows.ensures c.write_rows-2.ensures formed

@@ -1,5 +1,5 @@
 use Rattle.std.proofs.Common.{◌≡◌, ◌≤◌, map, length, get_or, take, set, ℤ, sym, ap, ◌∙◌, arith, w64}
-use Rattle.std.proofs.lemmas.List.{length-map, length-take-le, map_more, take_all}
+use Rattle.std.proofs.lemmas.List.{length-map, length-take-le, map_more}
 use Rattle.std.proofs.lemmas.Int.{to_z-of_z}
 use Rattle.word.specs.Word.{amount_of}
 use Rattle.case_tables.specs.Rows.{padded}
@@ -20,8 +20,3 @@ loop-i-preserved g c =
     ∙ ap (λ k. set (padded g.row.N before) k z) (sym long)
     ∙ padded-more g.row.N before z (omega arith)
     ∙ ap (padded g.row.N) (sym (map_more amount_of words i 0 (omega arith)))
-
-pub returns : goal.returns
-returns g c =
-    let words = c.args.words.now in
-    c.loop-i.invariant ∙ ap (λ xs. padded g.row.N (map amount_of xs)) (take_all c.loop-i.i words (omega arith))

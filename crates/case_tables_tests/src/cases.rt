@@ -10,45 +10,6 @@ use network::branch::{Branch, Ends};
 use network::bus::Bus;
 use stepped::stepped::Stepped;
 
-const BUS: Bus = Bus {
-    name: 1,
-    demand: Watts(0),
-};
-
-const BRANCH: Branch = Branch {
-    name: BranchName {
-        circuit: 1,
-        from: 1,
-        to: 1,
-    },
-    ends: Ends { from: 0, to: 0 },
-    susceptance: 1,
-    shift: Microradians(0),
-    rating: Watts(0),
-    angmin: Microradians(0),
-    angmax: Microradians(0),
-    service: false,
-};
-
-const STEPPED: Stepped = Stepped {
-    bus: 0,
-    lo: Watts(0),
-    hi: Watts(0),
-    c: 0,
-    n: 0,
-    points: [0; 8],
-    slopes: [0; 7],
-};
-
-const CURVED: Curved = Curved {
-    bus: 0,
-    lo: Watts(0),
-    hi: Watts(0),
-    c0: 0,
-    c1: 0,
-    c2: 0,
-};
-
 // The number and the place of the refusal, or none where the case is read.
 fn refusal(read: Result<ReadCase, CaseFault>) -> Option<(u32, usize)> {
     read.err().map(|fault| (fault.number(), fault.place()))
@@ -58,23 +19,23 @@ fn refusal(read: Result<ReadCase, CaseFault>) -> Option<(u32, usize)> {
 fn refused(words: &[u32]) -> Option<(u32, usize)> {
     refusal(read_case(
         words,
-        &mut [BUS; 3],
-        &mut [STEPPED; 3],
+        &mut [Bus::BLANK; 3],
+        &mut [Stepped::default(); 3],
         &mut [0; 3],
-        &mut [CURVED; 3],
+        &mut [Curved::default(); 3],
         &mut [0; 3],
-        &mut [BRANCH; 3],
+        &mut [Branch::BLANK; 3],
     ))
 }
 
 #[test]
 fn a_case_is_read(rt: HostRuntime) {
-    let mut buses = [BUS; 3];
-    let mut stepped = [STEPPED; 2];
+    let mut buses = [Bus::BLANK; 3];
+    let mut stepped = [Stepped::default(); 2];
     let mut first = [9; 2];
-    let mut curved = [CURVED; 2];
+    let mut curved = [Curved::default(); 2];
     let mut second = [9; 2];
-    let mut branches = [BRANCH; 3];
+    let mut branches = [Branch::BLANK; 3];
     let read = read_case(
         &paper(LAWFUL),
         &mut buses,
@@ -220,26 +181,26 @@ fn names_are_refused(rt: HostRuntime) {
 
 #[test]
 fn tables_may_be_too_short(rt: HostRuntime) {
-    let mut buses = [BUS; 3];
+    let mut buses = [Bus::BLANK; 3];
     let read = read_case(
         &paper(LAWFUL),
         &mut buses,
-        &mut [STEPPED; 1],
+        &mut [Stepped::default(); 1],
         &mut [0; 1],
-        &mut [CURVED; 1],
+        &mut [Curved::default(); 1],
         &mut [0; 1],
-        &mut [BRANCH; 1],
+        &mut [Branch::BLANK; 1],
     );
     assert_eq!(rt; refusal(read), Some((6, 30)), "one branch row");
     assert_eq!(rt; buses[0].name, 1, "no bus is written");
     let read = read_case(
         &paper(LAWFUL),
         &mut buses,
-        &mut [STEPPED; 1],
+        &mut [Stepped::default(); 1],
         &mut [0; 0],
-        &mut [CURVED; 1],
+        &mut [Curved::default(); 1],
         &mut [0; 1],
-        &mut [BRANCH; 2],
+        &mut [Branch::BLANK; 2],
     );
     assert_eq!(rt; refusal(read), Some((6, 10)), "no row for a machine's bus");
 }

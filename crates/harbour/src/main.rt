@@ -5,21 +5,23 @@ mod report;
 mod tables;
 
 use crate::report::{floor_all, judge_all, refused, try_without};
-use crate::tables::{BRANCHES, BUSES, CURVED, NO_BRANCH, NO_BUS, STEPPED};
+use crate::tables::{BRANCHES, BUSES, CURVED, STEPPED};
 use build::build::lay;
 use build::tables::Rows;
 use build::view::view;
 use measure::Watts;
+use network::branch::Branch;
+use network::bus::Bus;
 use network::case::Machines;
 use pricing::outage::Stations;
 use std::io;
 
 // The harbour at one tolerance: built from its tables, then each dispatch and each price list.
 fn run(rt: &HostRuntime, tolerance: u32) -> io::Result<()> {
-    let mut buses = [NO_BUS; 2];
+    let mut buses = [Bus::BLANK; 2];
     let mut first = [0; 1];
     let mut second = [0; 1];
-    let mut branches = [NO_BRANCH; 1];
+    let mut branches = [Branch::BLANK; 1];
     let rows = Rows {
         tolerance: Watts(i64::from(tolerance)),
         buses: &BUSES,

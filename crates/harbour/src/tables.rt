@@ -4,8 +4,6 @@ use curved::curved::Curved;
 use measure::column::Table;
 use measure::{Microradians, Watts};
 use names::branch::BranchName;
-use network::branch::{Branch, Ends};
-use network::bus::Bus;
 use network::dispatch::Dispatch;
 use network::prices::Prices;
 use std::fmt;
@@ -56,27 +54,6 @@ pub const BRANCHES: [BranchRow; 1] = [BranchRow {
     angmax: Microradians(6_400_000),
     service: true,
 }];
-
-// Rows with which the tables are filled before the harbour is laid in them.
-pub const NO_BUS: Bus = Bus {
-    name: 1,
-    demand: Watts(0),
-};
-
-pub const NO_BRANCH: Branch = Branch {
-    name: BranchName {
-        circuit: 1,
-        from: 1,
-        to: 1,
-    },
-    ends: Ends { from: 0, to: 0 },
-    susceptance: 1,
-    shift: Microradians(0),
-    rating: Watts(0),
-    angmin: Microradians(0),
-    angmax: Microradians(0),
-    service: false,
-};
 
 // The power of each machine of the two groups, and the angle of the second bus.
 #[derive(Clone, Copy)]

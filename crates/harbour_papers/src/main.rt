@@ -3,26 +3,28 @@
 
 mod judge;
 mod refused;
-mod tables;
 
 use crate::judge::judge_papers;
 use crate::refused::Refused;
-use crate::tables::{NO_BRANCH, NO_BUS, NO_CURVED, NO_STEPPED};
 use anyhow::Context;
 use case_tables::read::read_case;
 use case_tables::view::view;
+use curved::curved::Curved;
+use network::branch::Branch;
+use network::bus::Bus;
 use paper_file::papers::paper_len;
 use paper_file::words::words_of;
 use std::{env, fs};
+use stepped::stepped::Stepped;
 
 // Reads the case from the first paper, and judges the others by it.
 fn judge_file(rt: &HostRuntime, words: &[u32]) -> anyhow::Result<()> {
-    let mut buses = [NO_BUS; 100];
-    let mut stepped = [NO_STEPPED; 30];
+    let mut buses = [Bus::BLANK; 100];
+    let mut stepped = [Stepped::default(); 30];
     let mut first = [0u8; 30];
-    let mut curved = [NO_CURVED; 30];
+    let mut curved = [Curved::default(); 30];
     let mut second = [0u8; 30];
-    let mut branches = [NO_BRANCH; 200];
+    let mut branches = [Branch::BLANK; 200];
     let (paper, later) = words.split_at(paper_len(words));
     let read = read_case(
         paper,

@@ -33,7 +33,7 @@ abbrev pub onlyᶠ : Bool → Fraction → Fraction
 onlyᶠ true x = x
 onlyᶠ false x = whole (pos 0)
 
--- P of each element
+-- P of each element, along the list as the sums go; the library's `All` goes by index
 unfoldable pub All : {X : Type 0} → (X → Type 0) → List X → Type 0
 All P [] = Unit {0}
 All P (x ∷ xs) = P x × All P xs

@@ -12,7 +12,7 @@ pub struct Price {
 impl Price {
     pub const LIMIT: i64 = 1_000_000;
 
-    // The price of that many grains per watt-hour, or none outside the range.
+    // The price of that many grains per watt-hour, or none outside the range: no `TryFrom`, for there is one way to fail.
     pub fn new(value: i64) -> Option<Price>
         ensures { MatchOption result (Within 1000000 value → ⊥) (λ q. q.value ≡ value) }
     {

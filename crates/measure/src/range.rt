@@ -14,7 +14,7 @@ pub fn is_between(low: i64, high: i64, z: i64) -> bool
 pub fn is_beyond(limit: u32, z: i64) -> bool
     ensures { result ≡ not (between (neg_ℤ (pos limit)) (pos limit) z) }
 {
-    let limit = limit as i64;
+    let limit = i64::from(limit);
     !is_between(-limit, limit, z)
 }
 

@@ -31,3 +31,21 @@ pub struct Branch {
     ghost rated: { (pos 0 ≤ℤ rating.0) × (rating.0 ≤ℤ pos 100000000) },
     ghost limited: { Limits angmin.0 angmax.0 },
 }
+
+impl Branch {
+    // What stands in a row of a lent table before a case is laid there.
+    pub const BLANK: Branch = Branch {
+        name: BranchName {
+            circuit: 1,
+            from: 1,
+            to: 1,
+        },
+        ends: Ends { from: 0, to: 0 },
+        susceptance: 1,
+        shift: Microradians(0),
+        rating: Watts(0),
+        angmin: Microradians(0),
+        angmax: Microradians(0),
+        service: false,
+    };
+}

@@ -10,3 +10,11 @@ pub struct Bus {
     pub demand: Watts,
     ghost ok: { BusRanges name demand.0 },
 }
+
+impl Bus {
+    // What stands in a row of a lent table before a case is laid there. Not its `Default`: it is no bus of a case.
+    pub const BLANK: Bus = Bus {
+        name: 1,
+        demand: Watts(0),
+    };
+}

@@ -1,9 +1,7 @@
-use Rattle.std.proofs.Common.{length}
+use Rattle.std.proofs.Common.{rules}
 use Rattle.build.proofs.Known.{first_known, second_known, branches_known}
-use Rattle.build.proofs.Filling.{filled_to}
 use Rattle.build.proofs.Forming.{well_formed}
-use Rattle.build.specs.Raw.{BusOf}
-use Rattle.build.specs.Build.{Placed, Joined, Laid, lent}
+use Rattle.build.specs.Build.{Laid, lent}
 use Rattle.build.proofs.build.lay.Goals as goal
 
 pub fill_places-requires-clause-known : goal.fill_places-requires-clause-known
@@ -25,13 +23,5 @@ returns-clause-formed g c =
     let n = c.in_ok-counts.counts in
     let before = lent c.args.buses.now c.args.first.now c.args.second.now c.args.branches.now in
     let after = lent c.fill_buses.new.table c.fill_places.new.table c.fill_places-2.new.table c.fill_branches.new.table in
-    let done : Laid 𝓜 𝓝 o before after n =
-    record {
-      accepted = a.0;
-      counted = a.1;
-      buses = filled_to BusOf names before.buses after.buses (length names) n.buses a.1.buses c.fill_buses.ensures;
-      first = filled_to (Placed 𝓜 names) o.first.now before.first after.first (length o.first.now) n.first a.1.first c.fill_places.ensures;
-      second = filled_to (Placed 𝓝 names) o.second.now before.second after.second (length o.second.now) n.second a.1.second c.fill_places-2.ensures;
-      branches = filled_to (Joined names) o.branches.now before.branches after.branches (length o.branches.now) n.branches a.1.branches c.fill_branches.ensures;
-    } in
+    let done : Laid 𝓜 𝓝 o before after n = search rules in
     well_formed 𝓜 𝓝 o before after n done

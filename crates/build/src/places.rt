@@ -79,6 +79,7 @@ fn check_machines<M: Machine>(
 }
 
 // Tests that the buses at both ends of each branch are offered and differ; so many rows stand before the branches.
+// Not one function with the test of machines: each names what it looks for, and refuses by its own `let .. else`.
 fn check_branches(buses: &BusNames, branches: &[BranchRow], before: usize) -> Result<(), Refusal>
     requires { before + length branches.now ≤ 1000 }
     ensures { MatchResult result (λ _. Lowest (BranchUnknown buses.now.rows.now branches.now) None) (λ e. UnknownRow before (BranchUnknown buses.now.rows.now branches.now) e) }

@@ -37,7 +37,7 @@ const SHIFT: i64 = 1_600_000;
 // Every limit of an angle difference lies within ± this many microradians.
 const DIFFERENCE: i64 = 6_400_000;
 
-// Whether the number may name a bus or a circuit.
+// Whether the number may name a bus or a circuit. A word of a paper is tested likewise in `word`; tables need no words.
 fn is_name(number: u32) -> bool
     ensures { Decides result (NameRange number) }
 {

@@ -41,7 +41,7 @@ impl From<RecordFault> for CaseFault {
 }
 
 impl RecordFault {
-    // Its number among the refusals.
+    // Its number among the refusals, by which it is shown.
     pub fn number(self) -> u32
         ensures { result ≡ record_number self }
     {
@@ -64,7 +64,7 @@ impl RecordFault {
 }
 
 impl CaseFault {
-    // Its number among the refusals.
+    // Its number among the refusals, by which it is shown.
     pub fn number(self) -> u32
         ensures { result ≡ case_number self }
     {

@@ -17,6 +17,7 @@ pub enum Sort {
     Branch,
 }
 
+// Powers and prices, as in `paper`: the two crates stand side by side, and neither needs the other.
 const POWER: Slot = Slot::Amount(-100_000_000, 100_000_000);
 
 const PRICE: Slot = Slot::Amount(-1_000_000, 1_000_000);
@@ -51,7 +52,7 @@ pub fn head_slot(read: usize) -> Option<Slot>
 }
 
 impl Sort {
-    // The sort of record that a word begins.
+    // The sort of record that a word begins. Not `From`: of words that begin none it says nothing of use.
     pub fn of(word: u32) -> Sort
         ensures { result ≡ sort_of word }
     {
@@ -63,7 +64,7 @@ impl Sort {
         }
     }
 
-    // Its number in a table of counts.
+    // Its number in a table of counts: an array is read and raised by a number, four named counts by a match each time.
     pub fn rank(self) -> usize
         ensures { result ≡ rank self }
     {

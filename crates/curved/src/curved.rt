@@ -33,7 +33,7 @@ impl Curved {
             & is_between(1, 500, self.c2)
     }
 
-    // Its cost less q × power.
+    // Its cost less q × power. Ranges are asked for, not held by the type: any numbers may stand in a row.
     fn less(&self, q: Price) -> Quadratic
         requires { Ranges self.now }
         ensures fixed { result.c0 ≡ self.now.c0 }

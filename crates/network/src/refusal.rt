@@ -34,7 +34,7 @@ pub enum Refusal {
 }
 
 impl Refusal {
-    // The number of the refusal.
+    // The number of the refusal, by which it is shown; inside, the refusal itself is passed on.
     pub fn number(self) -> u8
         ensures { result ≡ number_of self }
     {

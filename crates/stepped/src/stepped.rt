@@ -13,7 +13,7 @@ use measure::{Grains, Watts};
 
 // It may run at every power from lo to hi. Its cost is c millions of grains per hour at the first of its n points, and from there on goes by its n - 1 slopes: a slope
 // in grains per watt-hour for each two neighbouring points in watts, the first and the last going on outside. What stands after them is not used. Any
-// numbers may stand in a row: one that breaks a range stands idle.
+// numbers may stand in a row: one that breaks a range stands idle. Arrays with a count, not a `Vec`: a row of a lent table has a fixed size.
 #[derive(Clone, Copy, PartialEq, Eq, Debug, Default)]
 pub struct Stepped {
     pub bus: u32,
@@ -44,7 +44,7 @@ impl Stepped {
             & slopes.is_sorted_by(|x, y| x <= y)
     }
 
-    // Its cost, along the line of its first slope and then from point to point.
+    // Its cost, along the line of its first slope and then from point to point. Ranges are asked for, as any numbers may stand in a row.
     fn pieces(&self) -> Pieces<'_>
         requires { Ranges self.now }
         ensures cost { result.line.cost ≡ pos 1000000 *ℤ self.now.c }

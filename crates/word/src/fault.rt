@@ -15,7 +15,7 @@ pub enum WordRefusal {
 }
 
 impl WordRefusal {
-    // Its number among the refusals.
+    // Its number among the refusals, by which it is shown; inside, the refusal itself is passed on.
     pub fn number(self) -> u32
         ensures { result ≡ refusal_number self }
     {

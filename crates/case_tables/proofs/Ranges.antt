@@ -1,6 +1,7 @@
 -- The rows of a lawful case keep their ranges, orders and sizes.
 use Rattle.std.proofs.Common.{◌≡◌, ℕ, zero, suc, Bool, true, false, cond, eqb, List, [], ◌∷◌, map, length, ℤ, pos, ◌≤ℤ◌, None, sym, refl, ap, ◌∙◌, subst, inl, inr, arith}
 use Rattle.std.specs.List.{AllByRecursion}
+use Rattle.std.proofs.lemmas.Bool.{false≢true}
 use Rattle.std.proofs.lemmas.Int.{ints}
 use Rattle.measure.specs.Rows.{Stands, Lowest}
 use Rattle.stepped.specs.Piecewise.{stepped_meaning}
@@ -27,19 +28,16 @@ use Rattle.case_tables.specs.Read.{Tables, rows_provided, laid_in, Offered, OfNa
 use Rattle.case_tables.proofs.Sizes.{matches_at, rows-length, count_most, head_some}
 
 -- ---- one record
-not-true : false ≡ true → ⊥
-not-true e = let z : ◌≡◌ {A = ℕ} 0 1 = cc in omega arith
-
 bus_kept : (q : Sort) (first : ℕ) (xs : List ℕ) → eqb (rank q) 0 ≡ true → Formed (record_of q first xs) → BusInRange (bus_row (record_of q first xs))
 bus_kept sort.Bus first xs e f = (f.0.1, (matches_at (amounts_of sort.Bus) xs 0 f.1 (omega arith)).1)
-bus_kept (sort.Stepped n) first xs e f = absurd (not-true e)
-bus_kept sort.Curved first xs e f = absurd (not-true e)
-bus_kept sort.Branch first xs e f = absurd (not-true e)
+bus_kept (sort.Stepped n) first xs e f = absurd (false≢true e)
+bus_kept sort.Curved first xs e f = absurd (false≢true e)
+bus_kept sort.Branch first xs e f = absurd (false≢true e)
 
 branch_kept : (q : Sort) (first : ℕ) (xs : List ℕ) → eqb (rank q) 3 ≡ true → Formed (record_of q first xs) → BranchInRange (branch_row (record_of q first xs))
-branch_kept sort.Bus first xs e f = absurd (not-true e)
-branch_kept (sort.Stepped n) first xs e f = absurd (not-true e)
-branch_kept sort.Curved first xs e f = absurd (not-true e)
+branch_kept sort.Bus first xs e f = absurd (false≢true e)
+branch_kept (sort.Stepped n) first xs e f = absurd (false≢true e)
+branch_kept sort.Curved first xs e f = absurd (false≢true e)
 branch_kept sort.Branch first xs e f =
     record {
       circuit = f.0.1;
@@ -53,9 +51,9 @@ branch_kept sort.Branch first xs e f =
     }
 
 branch_uncrossed : (q : Sort) (first : ℕ) (xs : List ℕ) → eqb (rank q) 3 ≡ true → InOrder q xs → CrossedLimits (branch_row (record_of q first xs)) → ⊥
-branch_uncrossed sort.Bus first xs e o crossed = not-true e
-branch_uncrossed (sort.Stepped n) first xs e o crossed = not-true e
-branch_uncrossed sort.Curved first xs e o crossed = not-true e
+branch_uncrossed sort.Bus first xs e o crossed = false≢true e
+branch_uncrossed (sort.Stepped n) first xs e o crossed = false≢true e
+branch_uncrossed sort.Curved first xs e o crossed = false≢true e
 branch_uncrossed sort.Branch first xs e o crossed = omega (arith, ints)
 
 -- ---- each row of a sort

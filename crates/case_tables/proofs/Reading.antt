@@ -17,7 +17,7 @@ use Rattle.build.specs.Offer.{Refused}
 use Rattle.build.specs.Build.{room_of, Lent, Laid, NotLaid, WellFormed, laid_case}
 use Rattle.case_paper.specs.Case as the
 use Rattle.case_paper.specs.Case.{head_slots, record_words, end_word, CaseForm}
-use Rattle.case_paper.specs.CaseFault.{LawfulCase, RefusedRead}
+use Rattle.case_paper.specs.CaseFault.{LawfulCase}
 use Rattle.case_paper.specs.Rows.{tolerance_of}
 use Rattle.case_paper.specs.declared.fault.CaseFault.{CaseFault}
 use Rattle.case_paper.specs.declared.fault.CaseFault.TheVariants.{Record, Repeats, Lacks}
@@ -32,12 +32,6 @@ use Rattle.case_tables.proofs.Ranges.{first_count, second_count}
 pub from_zero : (z : ℤ) → pos 0 ≤ℤ z → pos (nat_abs z) ≡ z
 from_zero (pos n) h = refl
 from_zero (negsuc n) h = absurd (omega (arith, ints))
-
--- a fault in the words
-pub refused_for : (w : List ℕ) (t : Tables) (f : CaseFault) → RefusedRead (rows_provided t) w f → Unread w t f
-refused_for w t (Record g) r = r
-refused_for w t (Repeats row) r = absurd r
-refused_for w t (Lacks row) r = absurd r
 
 -- ---- a result whose errors are told otherwise: its value, and the error that is told
 pub value_told : {T E F : Type 0} (r : Result T E) (s : Result T F) (R : E → F → Type 0) (x : T) → s ≡ Ok x → MatchResult r (λ y. s ≡ Ok y) (λ e. IsErrAnd s (R e)) → r ≡ Ok x

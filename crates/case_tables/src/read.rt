@@ -62,33 +62,9 @@ fn write_rows<T: Copy>(rows: &[T], table: &mut [T])
     table[..rows.len()].copy_from_slice(rows);
 }
 
-// Lays a lawful case in the lent tables, once all of its rows are read: every name is tested before the first writing.
-fn lay_case(
-    words: &[u32],
-    buses: &mut [Bus],
-    stepped: &mut [Stepped],
-    first: &mut [u8],
-    curved: &mut [Curved],
-    second: &mut [u8],
-    branches: &mut [Branch],
-) -> Result<ReadCase, CaseFault>
-    requires { LawfulCase (rows_provided (tables buses.old stepped.old first.old curved.old second.old branches.old)) words.now }
-    ensures { Outcome words.now (tables buses.old stepped.old first.old curved.old second.old branches.old) (tables buses.new stepped.new first.new curved.new second.new branches.new) result }
-{
-    let rows = read_rows(words);
-    let tolerance = amount(words[1]);
-    let offer = rows.offer(Watts(tolerance));
-    let counts = lay(&offer, buses, first, second, branches).map_err(name_fault)?;
-    write_rows(offer.first, stepped);
-    write_rows(offer.second, curved);
-    Ok(ReadCase {
-        tolerance: tolerance as u32,
-        counts,
-    })
-}
-
 // Reads a case into the lent tables: buses, machines of both kinds with the rows of their buses, and branches. The words are tested to their
-// end before a row is read, and a refusal leaves every table as it was.
+// end before a row is read, every name before the first writing, and a refusal leaves every table as it was. Six tables, not a
+// struct of them: that has one lifetime, and a caller that lends one of its tables twice gets no proof.
 pub fn read_case(
     words: &[u32],
     buses: &mut [Bus],
@@ -102,5 +78,14 @@ pub fn read_case(
 {
     let room = rows_provided(buses, stepped, first, curved, second, branches);
     check_case(words, &room)?;
-    lay_case(words, buses, stepped, first, curved, second, branches)
+    let rows = read_rows(words);
+    let tolerance = amount(words[1]);
+    let offer = rows.offer(Watts(tolerance));
+    let counts = lay(&offer, buses, first, second, branches).map_err(name_fault)?;
+    write_rows(offer.first, stepped);
+    write_rows(offer.second, curved);
+    Ok(ReadCase {
+        tolerance: tolerance as u32,
+        counts,
+    })
 }

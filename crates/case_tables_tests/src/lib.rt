@@ -2,6 +2,6 @@
 #![tactic(auto)]
 
 #[cfg(test)]
-mod case_words;
-#[cfg(test)]
 mod cases;
+#[cfg(test)]
+mod paper;

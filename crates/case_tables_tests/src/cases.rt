@@ -1,5 +1,5 @@
 // A lawful case, names that are repeated or lacking, and tables that are too short.
-use crate::paper::{LAWFUL, Names, paper};
+use crate::case_words::{LAWFUL, Names, paper};
 use build::tables::Counts;
 use case_paper::fault::CaseFault;
 use case_tables::read::{ReadCase, read_case};

@@ -2,6 +2,6 @@
 #![tactic(auto)]
 
 #[cfg(test)]
-mod cases;
+mod case_words;
 #[cfg(test)]
-mod paper;
+mod cases;

@@ -1,6 +1,7 @@
 pub mod Word
 pub mod Form
 pub mod Fault
+pub mod Head
 pub mod Place
 pub mod Slot
 pub mod Run

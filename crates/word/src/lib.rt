@@ -5,6 +5,7 @@ pub mod amount;
 pub mod bytes;
 pub mod column;
 pub mod fault;
+pub mod head;
 pub mod kind;
 pub mod laws;
 pub mod place;

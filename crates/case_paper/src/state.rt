@@ -5,6 +5,7 @@ ghost use Rattle.case_paper.specs.State.{state_place, open_first, Ranges, next, 
 
 use crate::sort::{Sort, head_slot, opens_record};
 use word::fault::{WordFault, WordRefusal};
+use word::head::Head;
 use word::kind::{Kind, kind_of, payload};
 use word::place::{Place, may_stand};
 use word::slot::Slot;
@@ -68,7 +69,7 @@ impl State {
         ensures { Decides result (Ranges self word) }
     {
         match (self, kind_of(word)) {
-            (State::Head, _) => payload(word) == 1,
+            (State::Head, _) => payload(word) == Head::Case.number(),
             (State::Counts(read), _) => fills(head_slot(read), word),
             (State::Next(_), Kind::End) => payload(word) == 0,
             (State::Next(_), _) => opens_record(word),

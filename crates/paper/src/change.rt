@@ -1,6 +1,7 @@
 // Change papers: exactly a head, a name, an amount, an end.
 ghost use Rattle.std.specs.Prelude.{◌≡◌, MatchResult};
 ghost use Rattle.word.specs.Fault.{RefusedWord};
+ghost use Rattle.word.specs.Head.{head_number};
 ghost use Rattle.word.specs.Slot.{Fits, Matches, Possible};
 ghost use Rattle.paper.specs.Change.{change_slots, change_words, demand_words, LawfulDemand, DemandForm, mark_words, LawfulMark, MarkForm};
 
@@ -10,6 +11,7 @@ use measure::Watts;
 use names::branch::BranchName;
 use word::amount::amount;
 use word::fault::WordFault;
+use word::head::Head;
 use word::kind::payload;
 use word::read::admit_all;
 use word::run::Run;
@@ -28,14 +30,19 @@ pub struct MarkChange {
 }
 
 // The words are a head, a name, an amount and an end; returned are the words of the name and the amount.
-fn admit_change(words: &[u32], head: u32, name: Slot, amount: Slot) -> Result<(u32, u32), WordFault>
-    requires { Possible (change_slots head name amount) }
-    ensures { MatchResult result (λ p. Fits name p.0 × Fits amount p.1 × (words.now ≡ change_words head p.0 p.1)) (λ f. RefusedWord (Matches (change_slots head name amount)) words.now f) }
+fn admit_change(
+    words: &[u32],
+    head: Head,
+    name: Slot,
+    amount: Slot,
+) -> Result<(u32, u32), WordFault>
+    requires { Possible (change_slots (head_number head) name amount) }
+    ensures { MatchResult result (λ p. Fits name p.0 × Fits amount p.1 × (words.now ≡ change_words (head_number head) p.0 p.1)) (λ f. RefusedWord (Matches (change_slots (head_number head) name amount)) words.now f) }
 {
     admit_all(
         words,
         &[
-            Run::one(Slot::Head(head)),
+            Run::one(Slot::Head(head.number())),
             Run::one(name),
             Run::one(amount),
             Run::one(Slot::End),
@@ -51,7 +58,7 @@ fn admit_change(words: &[u32], head: u32, name: Slot, amount: Slot) -> Result<(u
 pub fn read_demand_change(words: &[u32]) -> Result<DemandChange, WordFault>
     ensures { MatchResult result (λ v. LawfulDemand v × (words.now ≡ demand_words v)) (λ f. RefusedWord DemandForm words.now f) }
 {
-    let (bus, demand) = admit_change(words, 4, Slot::Bus, POWER)?;
+    let (bus, demand) = admit_change(words, Head::Demand, Slot::Bus, POWER)?;
     Ok(DemandChange {
         bus: payload(bus),
         demand: Watts(amount(demand)),
@@ -62,7 +69,7 @@ pub fn read_demand_change(words: &[u32]) -> Result<DemandChange, WordFault>
 pub fn read_mark_change(words: &[u32]) -> Result<MarkChange, WordFault>
     ensures { MatchResult result (λ v. LawfulMark v × (words.now ≡ mark_words v)) (λ f. RefusedWord MarkForm words.now f) }
 {
-    let (branch, mark) = admit_change(words, 5, Slot::Branch, MARK)?;
+    let (branch, mark) = admit_change(words, Head::Mark, Slot::Branch, MARK)?;
     Ok(MarkChange {
         branch: branch_name(branch),
         in_service: amount(mark) == 1,

@@ -7,6 +7,7 @@ use crate::columns::column;
 use crate::range::{ANGLE, POWER};
 use word::column::WordColumn;
 use word::fault::WordFault;
+use word::head::Head;
 use word::read::admit_all;
 use word::run::Run;
 use word::slot::Slot;
@@ -30,7 +31,7 @@ pub fn read_dispatch<'a>(
     admit_all(
         words,
         &[
-            Run::one(Slot::Head(2)),
+            Run::one(Slot::Head(Head::Dispatch.number())),
             Run::many(powers, POWER),
             Run::many(angles, ANGLE),
             Run::one(Slot::End),

@@ -6,6 +6,7 @@ ghost use Rattle.paper.specs.HandOver.{hand_over_words, HandOverForm};
 use crate::range::ATTENDANT;
 use word::amount::amount;
 use word::fault::WordFault;
+use word::head::Head;
 use word::read::admit_all;
 use word::run::Run;
 use word::slot::Slot;
@@ -17,7 +18,7 @@ pub fn read_hand_over(words: &[u32]) -> Result<u16, WordFault>
     admit_all(
         words,
         &[
-            Run::one(Slot::Head(7)),
+            Run::one(Slot::Head(Head::HandOver.number())),
             Run::one(ATTENDANT),
             Run::one(Slot::End),
         ],

@@ -7,6 +7,7 @@ use crate::columns::column;
 use crate::range::{ANGLE_PRICE, PRICE};
 use word::column::WordColumn;
 use word::fault::WordFault;
+use word::head::Head;
 use word::read::admit_all;
 use word::run::Run;
 use word::slot::Slot;
@@ -57,7 +58,7 @@ pub fn read_prices<'a>(
     admit_all(
         words,
         &[
-            Run::one(Slot::Head(3)),
+            Run::one(Slot::Head(Head::Prices.number())),
             Run::many(usize::from(buses), PRICE),
             branch_run(branches),
             Run::one(Slot::End),

@@ -8,6 +8,7 @@ use crate::prices::{PricesPaper, branch_run, price_columns};
 use crate::range::PRICE;
 use names::branch::BranchName;
 use word::fault::WordFault;
+use word::head::Head;
 use word::read::admit_all;
 use word::run::Run;
 use word::slot::Slot;
@@ -31,7 +32,7 @@ pub fn read_trial<'a>(
     admit_all(
         words,
         &[
-            Run::one(Slot::Head(6)),
+            Run::one(Slot::Head(Head::Trial.number())),
             Run::one(Slot::Branch),
             Run::many(usize::from(buses), PRICE),
             branch_run(branches),

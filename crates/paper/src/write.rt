@@ -5,6 +5,7 @@ ghost use Rattle.paper.specs.Dispatch.{dispatch_words};
 ghost use Rattle.paper.specs.Write.{Writes};
 
 use word::amount::amount_word;
+use word::head::Head;
 use word::kind::{Kind, word_of};
 
 // The list for a dispatch is too short.
@@ -30,7 +31,7 @@ pub fn write_dispatch(powers: &[i64], angles: &[i64], list: &mut [u32]) -> Resul
     if list.len() <= end {
         return Err(TooShort);
     }
-    list[0] = word_of(Kind::Head, 2);
+    list[0] = word_of(Kind::Head, Head::Dispatch.number());
     put_amounts(powers, 1, list);
     put_amounts(angles, 1 + powers.len(), list);
     list[end] = word_of(Kind::End, 0);

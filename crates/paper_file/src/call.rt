@@ -2,6 +2,7 @@
 ghost use Rattle.std.specs.Prelude.{◌≡◌};
 ghost use Rattle.paper_file.specs.Calls.{call_for};
 
+use word::head::Head;
 use word::kind::{Kind, kind_of, payload};
 
 #[derive(Clone, Copy, PartialEq, Eq, Debug)]
@@ -18,12 +19,15 @@ pub enum Call {
 pub fn call_of(words: &[u32]) -> Call
     ensures { result ≡ call_for words.now }
 {
-    match words.first().map(|word| (kind_of(*word), payload(*word))) {
-        Some((Kind::Head, 3)) => Call::Prices,
-        Some((Kind::Head, 4)) => Call::Demand,
-        Some((Kind::Head, 5)) => Call::Mark,
-        Some((Kind::Head, 6)) => Call::Trial,
-        Some((Kind::Head, 7)) => Call::HandOver,
+    let Some(first) = words.first() else {
+        return Call::Dispatch;
+    };
+    match (kind_of(*first), Head::of(payload(*first))) {
+        (Kind::Head, Some(Head::Prices)) => Call::Prices,
+        (Kind::Head, Some(Head::Demand)) => Call::Demand,
+        (Kind::Head, Some(Head::Mark)) => Call::Mark,
+        (Kind::Head, Some(Head::Trial)) => Call::Trial,
+        (Kind::Head, Some(Head::HandOver)) => Call::HandOver,
         _ => Call::Dispatch,
     }
 }

@@ -14,7 +14,8 @@ use stepped::stepped::Stepped;
 use word::amount::amount;
 use word::kind::payload;
 
-// The amounts of the words, then zeros.
+// The amounts of the words, then zeros. By index, not by `array::from_fn`: that tells of its calls through the states of the closure, and that these keep
+// the same words was not proved.
 fn amounts_in<const N: usize>(words: &[u32]) -> [i64; N]
     requires { length words.now ≤ N }
     ensures { result ≡ padded N (map amount_of words.now) }

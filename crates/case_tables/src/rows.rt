@@ -13,6 +13,7 @@ use curved::curved::Curved;
 use measure::Watts;
 use stepped::stepped::Stepped;
 
+// These are the most of each that the head of a case may count. `build` has such limits of its own, since its rows may come from no words at all.
 // The most buses.
 const BUSES: usize = 100;
 // The most machines of one kind.

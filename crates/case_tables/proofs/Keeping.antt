@@ -1,8 +1,6 @@
 -- Rows kept one after another.
 use Rattle.std.proofs.Common.{◌≡◌, ℕ, zero, suc, ◌+◌, ◌-◌, ◌<◌, Bool, true, false, cond, eqb, List, [], ◌∷◌, ◌++◌, map, length, set, replicate, ℤ, pos, sym, refl, ap, ◌∙◌, arith}
 use Rattle.std.proofs.lemmas.List.{append_assoc, length_push, length-append, length-replicate, map_push, set-append_right}
-use Rattle.word.specs.Slot.{Matches}
-use Rattle.word.proofs.Slots.{matches_length}
 use Rattle.case_paper.specs.Case.{rank, Record, amounts_of, power_slot, price_slot}
 use Rattle.case_paper.specs.Rows.{of_rank}
 use Rattle.case_paper.specs.declared.sort.Sort.TheVariants as sort
@@ -59,6 +57,3 @@ stepped_size n =
     let b = length-replicate (3 + n) power_slot in
     let d = length-replicate (n - 1) price_slot in
     omega arith
-
-pub stepped-long : (n : ℕ) (xs : List ℕ) → Matches (amounts_of (sort.Stepped n)) xs → length xs ≡ 3 + n + (n - 1)
-stepped-long n xs m = matches_length (amounts_of (sort.Stepped n)) xs m ∙ stepped_size n

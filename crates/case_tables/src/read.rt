@@ -23,7 +23,7 @@ pub struct ReadCase {
     pub counts: Counts,
 }
 
-// How many records of each sort the tables have rows for.
+// How many records of each sort the tables have rows for. Six tables, as `read_case` is lent them.
 fn rows_provided(
     buses: &[Bus],
     stepped: &[Stepped],
@@ -84,6 +84,7 @@ pub fn read_case(
     let counts = lay(&offer, buses, first, second, branches).map_err(name_fault)?;
     write_rows(offer.first, stepped);
     write_rows(offer.second, curved);
+    // The tolerance is from 0 to 100000 by the test of the words: `try_from` would give up at a place that is never reached.
     Ok(ReadCase {
         tolerance: tolerance as u32,
         counts,

@@ -4,7 +4,7 @@ ghost use Rattle.case_paper.specs.Case.{Record, Formed};
 ghost use Rattle.case_tables.specs.Rows.{record_of, Offers};
 ghost use Rattle.case_tables.specs.Held.{Holds, HasPlace};
 
-use crate::record::{branch_row, bus_row, curved_row, stepped_row};
+use crate::record::RecordWords;
 use arrayvec::ArrayVec;
 use build::rows::{BranchRow, BusRow};
 use build::tables::Rows;
@@ -13,6 +13,7 @@ use curved::curved::Curved;
 use measure::Watts;
 use stepped::stepped::Stepped;
 
+// These are the most of each that the head of a case may count. `build` has such limits of its own, since its rows may come from no words at all.
 // The most buses.
 const BUSES: usize = 100;
 // The most machines of one kind.
@@ -43,16 +44,16 @@ impl CaseRows {
     }
 
     // Keeps the row of one record more.
-    pub(crate) fn push(&mut self, sort: Sort, first: u32, amounts: &[u32])
-        requires formed { Formed (record_of sort first amounts.now) }
-        requires place { HasPlace self.old sort }
-        ensures { (rs : List Record) → Holds self.old rs → Holds self.new (rs ++ (record_of sort first amounts.now ∷ [])) }
+    pub(crate) fn push(&mut self, words: &RecordWords<'_>)
+        requires formed { Formed (record_of words.now.sort words.now.first words.now.amounts.now) }
+        requires place { HasPlace self.old words.now.sort }
+        ensures { (rs : List Record) → Holds self.old rs → Holds self.new (rs ++ (record_of words.now.sort words.now.first words.now.amounts.now ∷ [])) }
     {
-        match sort {
-            Sort::Bus => self.buses.push(bus_row(first, amounts)),
-            Sort::Stepped(n) => self.stepped.push(stepped_row(n, first, amounts)),
-            Sort::Curved => self.curved.push(curved_row(first, amounts)),
-            Sort::Branch => self.branches.push(branch_row(first, amounts)),
+        match words.sort {
+            Sort::Bus => self.buses.push(words.bus_row()),
+            Sort::Stepped(n) => self.stepped.push(words.stepped_row(n)),
+            Sort::Curved => self.curved.push(words.curved_row()),
+            Sort::Branch => self.branches.push(words.branch_row()),
         }
     }
 

@@ -3,6 +3,7 @@ ghost use Rattle.std.specs.Prelude.{◌≡◌, ◌≤◌, length};
 ghost use Rattle.case_paper.specs.Case.{amounts_of, CaseForm};
 ghost use Rattle.case_tables.specs.Held.{Holds, CountedCase};
 
+use crate::record::RecordWords;
 use crate::rows::CaseRows;
 use case_paper::sort::Sort;
 
@@ -30,7 +31,11 @@ pub(crate) fn read_rows(words: &[u32]) -> CaseRows
     while let [first, rest @ ..] = records {
         let sort = Sort::of(*first);
         let (amounts, later) = rest.split_at(amount_count(sort));
-        rows.push(sort, *first, amounts);
+        rows.push(&RecordWords {
+            sort,
+            first: *first,
+            amounts,
+        });
         records = later;
     }
     rows

@@ -4,20 +4,33 @@ use build::tables::Counts;
 use case_paper::fault::CaseFault;
 use case_tables::read::{ReadCase, read_case};
 use curved::curved::Curved;
-use measure::{Microradians, Watts};
-use names::branch::BranchName;
-use network::branch::{Branch, Ends};
+use network::branch::Branch;
 use network::bus::Bus;
 use stepped::stepped::Stepped;
 
-// The number and the place of the refusal, or none where the case is read.
-fn refusal(read: Result<ReadCase, CaseFault>) -> Option<(u32, usize)> {
-    read.err().map(|fault| (fault.number(), fault.place()))
+// A refusal's number, and its place.
+#[derive(Clone, Copy, PartialEq, Eq, Debug)]
+struct Refusal {
+    number: u32,
+    place: usize,
+}
+
+// A refusal of this number, at this place.
+fn refused_at(number: u32, place: usize) -> Option<Refusal> {
+    Some(Refusal { number, place })
+}
+
+// The refusal, or none where the case is read.
+fn refusal_of(read: Result<ReadCase, CaseFault>) -> Option<Refusal> {
+    read.err().map(|fault| Refusal {
+        number: fault.number(),
+        place: fault.place(),
+    })
 }
 
 // What reading the words into tables of three rows is refused for.
-fn refused(words: &[u32]) -> Option<(u32, usize)> {
-    refusal(read_case(
+fn refused(words: &[u32]) -> Option<Refusal> {
+    refusal_of(read_case(
         words,
         &mut [Bus::BLANK; 3],
         &mut [Stepped::default(); 3],
@@ -109,7 +122,7 @@ fn names_are_refused(rt: HostRuntime) {
     let table = [
         (LAWFUL, None),
         // a repeated bus, before a bus that is not there
-        (Names { bus: 7, ..LAWFUL }, Some((8, 1))),
+        (Names { bus: 7, ..LAWFUL }, refused_at(8, 1)),
         // a repeated branch, before a bus that is not there
         (
             Names {
@@ -117,7 +130,7 @@ fn names_are_refused(rt: HostRuntime) {
                 curved: 5,
                 ..LAWFUL
             },
-            Some((8, 1)),
+            refused_at(8, 1),
         ),
         // the same branch in another circuit
         (
@@ -133,28 +146,28 @@ fn names_are_refused(rt: HostRuntime) {
                 stepped: 5,
                 ..LAWFUL
             },
-            Some((9, 0)),
+            refused_at(9, 0),
         ),
         (
             Names {
                 curved: 5,
                 ..LAWFUL
             },
-            Some((9, 1)),
+            refused_at(9, 1),
         ),
         (
             Names {
                 branch: 0x1_0507,
                 ..LAWFUL
             },
-            Some((9, 2)),
+            refused_at(9, 2),
         ),
         (
             Names {
                 other: 0x1_0705,
                 ..LAWFUL
             },
-            Some((9, 3)),
+            refused_at(9, 3),
         ),
         // equal ends
         (
@@ -162,7 +175,7 @@ fn names_are_refused(rt: HostRuntime) {
                 branch: 0x1_0404,
                 ..LAWFUL
             },
-            Some((9, 2)),
+            refused_at(9, 2),
         ),
         // no name at all, before every other fault of names
         (
@@ -171,7 +184,7 @@ fn names_are_refused(rt: HostRuntime) {
                 curved: 0,
                 ..LAWFUL
             },
-            Some((4, 17)),
+            refused_at(4, 17),
         ),
     ];
     for &(names, expected) in &table {
@@ -191,7 +204,7 @@ fn tables_may_be_too_short(rt: HostRuntime) {
         &mut [0; 1],
         &mut [Branch::BLANK; 1],
     );
-    assert_eq!(rt; refusal(read), Some((6, 30)), "one branch row");
+    assert_eq!(rt; refusal_of(read), refused_at(6, 30), "one branch row");
     assert_eq!(rt; buses[0].name, 1, "no bus is written");
     let read = read_case(
         &paper(LAWFUL),
@@ -202,5 +215,9 @@ fn tables_may_be_too_short(rt: HostRuntime) {
         &mut [0; 1],
         &mut [Branch::BLANK; 2],
     );
-    assert_eq!(rt; refusal(read), Some((6, 10)), "no row for a machine's bus");
+    assert_eq!(rt;
+        refusal_of(read),
+        refused_at(6, 10),
+        "no row for a machine's bus"
+    );
 }

@@ -11,7 +11,7 @@ use pricing::outage::{Stations, floor_without};
 use std::io;
 use stepped::stepped::Stepped;
 
-// A refusal, by its number and place.
+// A refusal, by its number and place. Not by a `Display` of the refusal: these words are the program's own, and stand only here.
 pub(crate) fn refused(rt: &HostRuntime, refusal: Refusal) -> io::Result<()> {
     let number = refusal.number();
     let place = refusal.place();

@@ -23,6 +23,8 @@ fn part<'a>(column: WordColumn<'a>, from: usize, count: usize) -> WordColumn<'a>
     }
 }
 
+// The case and a paper's words are handed on one by one: the words are others for each paper, so a struct of both would be made for each call.
+
 // The cost of a dispatch paper.
 fn cost_of(case: &Case<Stepped, Curved>, words: &[u32]) -> Result<Grains, Refused> {
     let first = case.first.used().len();

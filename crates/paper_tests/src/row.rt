@@ -55,8 +55,5 @@ impl From<CaseFault> for Refusal {
 
 // What a reader makes of words, whatever it reads.
 pub fn outcome<T: Drop, F: Into<Refusal>>(read: Result<T, F>) -> Result<(), Refusal> {
-    match read {
-        Ok(_) => Ok(()),
-        Err(f) => Err(f.into()),
-    }
+    read.map(|_| ()).map_err(F::into)
 }

@@ -3,13 +3,13 @@ use Rattle.std.proofs.lemmas.List.{take_rest}
 use Rattle.std.proofs.lemmas.Int.{to_z-of_z}
 use Rattle.word.specs.Word.{payload_of, amount_of}
 use Rattle.case_tables.specs.Rows.{padded}
-use Rattle.case_tables.proofs.record.stepped_row.Goals as goal
+use Rattle.case_tables.proofs.record.RecordWords.stepped_row.Goals as goal
 
 pub returns : goal.returns
 returns c =
     let n = c.args.n in
-    let amounts = c.args.amounts.now in
-    let said : n ≡ payload_of c.args.first / 256 = sym c.requires.said in
+    let amounts = c.args.self.now.amounts.now in
+    let said : n ≡ payload_of c.args.self.now.first / 256 = sym c.requires.said in
     let bus = ap (λ (p : ℕ). p % 256) c.payload.ensures in
     let lo = to_z-of_z w64 c.amount.result (record { sfits = c.amount.type_inv }) ∙ c.amount.ensures in
     let hi = to_z-of_z w64 c.amount-2.result (record { sfits = c.amount-2.type_inv }) ∙ c.amount-2.ensures in

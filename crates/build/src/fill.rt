@@ -25,7 +25,7 @@ fn fill<R, T: Copy, F: Fn(&R) -> Option<T>>(rows: &[R], table: &mut [T], made: F
     }
 }
 
-// Writes the buses of the rows.
+// Writes the buses of the rows. Room is asked for by each of these: it is a fact of two tables, which the type of neither can hold.
 pub(crate) fn fill_buses(rows: &[BusRow], table: &mut [Bus])
     requires ranges { Lowest (BusOutOfRange rows.now) None }
     requires room { length rows.now ≤ length table.old }

@@ -25,6 +25,7 @@ impl<'r> BusNames<'r> {
     pub(crate) fn row_of(&self, name: u32) -> Option<u8>
         ensures { MatchOption result (Lacks self.now.rows.now name) (λ i. Found self.now.rows.now name i) }
     {
+        // Of at most 100 rows, so that 8 bits hold it.
         let row = NameList { rows: self.rows }.find(&name)?;
         Some(row as u8)
     }
@@ -70,6 +71,7 @@ fn check_machines<M: Machine>(
     requires { before + length machines.now ≤ 1000 }
     ensures { MatchResult result (λ _. Lowest (MachineUnknown M.meaning buses.now.rows.now machines.now) None) (λ e. UnknownRow before (MachineUnknown M.meaning buses.now.rows.now machines.now) e) }
 {
+    // The row is part of the refusal.
     for (i, machine) in machines.iter().enumerate() {
         let Some(_row) = buses.place_of(machine) else {
             return Err(Refusal::UnknownBus(before + i));

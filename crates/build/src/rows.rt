@@ -37,14 +37,14 @@ const SHIFT: i64 = 1_600_000;
 // Every limit of an angle difference lies within ± this many microradians.
 const DIFFERENCE: i64 = 6_400_000;
 
-// Whether the number may name a bus or a circuit. A word of a paper is tested likewise in `word`; tables need no words.
+// Whether the number may name a bus or a circuit. The byte of a word is tested alike in `word`, by a definition that speaks of words.
 fn is_name(number: u32) -> bool
     ensures { Decides result (NameRange number) }
 {
     (1..=255).contains(&number)
 }
 
-// A row of which it is known which numbers may stand in it.
+// A row of which it is known which numbers may stand in it: a trait, so that one search serves both kinds of row.
 pub trait Ranged {
     // every number is in its range
     ghost ranged: { Self → Type 0 };

@@ -12,7 +12,7 @@ pub struct Rows<'r, M, N> {
     pub branches: &'r [BranchRow],
 }
 
-// How many rows each table to be filled has room for.
+// How many rows each table to be filled has room for: any number, where a count has 8 bits.
 #[derive(Clone, Copy)]
 pub struct Room {
     pub buses: usize,

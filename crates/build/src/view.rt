@@ -8,7 +8,7 @@ use network::branch::Branch;
 use network::bus::Bus;
 use network::case::{Case, Machines};
 
-// A view of the case: the machines that were offered, and the tables in which the rest was laid.
+// A view of the case: the machines that were offered, and the tables in which the rest was laid. The tolerance in range fits 32 bits.
 pub fn view<'a, M, N>(
     rows: &Rows<'a, M, N>,
     buses: &'a [Bus],

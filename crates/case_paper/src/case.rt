@@ -15,7 +15,8 @@ use crate::state::State;
 use word::fault::{WordFault, WordRefusal};
 use word::kind::{Kind, kind_of};
 
-// A record that a word completes: its sort, its first word, and the amounts before that word.
+// A record that a word completes: its sort, its first word, and the amounts before that word. Words and counts are passed beside it, not in it:
+// the words stand, and the counts rise.
 #[derive(Clone, Copy)]
 pub struct Closed {
     pub sort: Sort,
@@ -86,6 +87,7 @@ pub fn check_records(words: &[u32], rows: &[usize; 4]) -> Result<(), RecordFault
 {
     let mut state = State::Head;
     let mut counts = [0; 4];
+    // The place is part of the fault.
     for (place, word) in words.iter().enumerate() {
         let was = state;
         end_in_time(state, place, *word, words, &counts)?;

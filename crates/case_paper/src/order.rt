@@ -13,7 +13,7 @@ fn rises(xs: &[u32]) -> bool
     xs.is_sorted_by(|x, y| amount(*x) < amount(*y))
 }
 
-// They never fall.
+// They never fall. Beside `rises`, not one with it: each is a line over the library's test.
 fn keeps(xs: &[u32]) -> bool
     ensures { Decides result ((k : ℕ) → k + 1 < length xs.now → amount_at xs.now k ≤ℤ amount_at xs.now (k + 1)) }
 {

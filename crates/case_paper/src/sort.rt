@@ -17,7 +17,7 @@ pub enum Sort {
     Branch,
 }
 
-// Powers and prices, as in `paper`: the two crates stand side by side, and neither needs the other.
+// Powers and prices, as in `paper`: each reader states the ranges of its own form.
 const POWER: Slot = Slot::Amount(-100_000_000, 100_000_000);
 
 const PRICE: Slot = Slot::Amount(-1_000_000, 1_000_000);

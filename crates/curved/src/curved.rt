@@ -90,6 +90,7 @@ impl Machine for Curved {
         }
     }
 
+    // In each kind, as the cost.
     fn margin(&self, q: Price) -> Grains {
         if self.is_in_range() {
             Grains(self.least_margin(q))

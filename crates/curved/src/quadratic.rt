@@ -57,7 +57,7 @@ impl Quadratic {
         self.line_at(p) + rounded_up(self.square_at(p))
     }
 
-    // The cost at p, rounded down.
+    // The cost at p, rounded down. Beside `up_at`, not one with it: each is a line, and its name says which way it goes.
     pub(crate) fn down_at(self, p: Power) -> i64
         ensures { result ≡ pos 1000000 *ℤ self.c0 +ℤ self.slope *ℤ p.watts +ℤ floor_div (self.c2 *ℤ p.watts *ℤ p.watts) (pos 1000000) }
     {

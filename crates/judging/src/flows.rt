@@ -18,7 +18,7 @@ pub(crate) struct Flows<'a, 'd, C> {
 }
 
 impl<'a, 'd, C: Column> Flows<'a, 'd, C> {
-    // What leaves the bus by that branch, less what arrives.
+    // What leaves the bus by that branch, less what arrives. (Pulls of prices leave and arrive alike in `pricing`, in its own terms.)
     fn outflow_by(&self, branch: &Branch, bus: usize) -> i64
         ensures { result ≡ outflow_of (angle_of self.now.angles.buses (C.value self.now.angles.given.now)) bus branch.now }
     {

@@ -27,6 +27,7 @@ fn cost<M: Machine, N: Machine, C: Column>(
     let first = case.first.used();
     let second = case.second.used();
     let one = total_cost(first, &dispatch.first).map_err(Refusal::NotAllowed)?;
+    // A match, not `map_err`: that the row counted on fits did not close in the proof of a closure.
     match total_cost(second, &dispatch.second) {
         Err(row) => Err(Refusal::NotAllowed(first.len() + row)),
         Ok(other) => Ok(Grains(one.0 + other.0)),

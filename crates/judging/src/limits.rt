@@ -49,7 +49,8 @@ impl<'a, 'd, C: Column> Flows<'a, 'd, C> {
         first_broken(count, |row| self.is_overloaded(row))
     }
 
-    // Whether the branch is in service and its angle difference breaks its limits.
+    // Whether the branch is in service and its angle difference breaks its limits. Three small functions again, not the three above with a closure:
+    // each clause would have to speak of the closure in place of the limit.
     fn breaks_limits(&self, branch: &Branch) -> bool
         ensures { result ≡ overstretched (angle_of self.now.angles.buses (C.value self.now.angles.given.now)) branch.now }
     {

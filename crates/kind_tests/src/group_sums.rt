@@ -19,6 +19,7 @@ fn cost_of_two<M: Machine>(machines: &[M; 2], first: i64, second: i64) -> Result
     total_cost(machines, &Table { values: &powers }).map(|grains| grains.0)
 }
 
+// As `check_costs` of one machine, over another kind of row.
 #[cfg(test)]
 fn check_costs_of_two<M: Machine>(
     rt: &impl Abort,

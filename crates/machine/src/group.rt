@@ -13,6 +13,7 @@ pub fn total_cost<M: Machine, C: Column>(machines: &[M], powers: &C) -> Result<G
     ensures { MatchResult result (λ t. Counted M.meaning machines.now (C.value powers.now) t.0) (λ i. NotAllowedAt M.meaning machines.now (C.value powers.now) i) }
 {
     let mut total = 0;
+    // Machine by machine, not in a chain: a signed sum has its bound at each step.
     for (i, machine) in machines.iter().enumerate() {
         let cost = machine.cost(Watts(powers.at(i))).ok_or(i)?;
         total += cost.0;
@@ -27,6 +28,7 @@ pub fn total_margin<M: Machine, C: Column>(machines: &[M], prices: &C) -> Grains
     ensures { result.0 ≡ total_margins M.meaning machines.now (C.value prices.now) }
 {
     let mut total = 0;
+    // Machine by machine, as above.
     for (i, machine) in machines.iter().enumerate() {
         let Some(price) = Price::new(prices.at(i)) else {
             unreachable()

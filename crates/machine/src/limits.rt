@@ -15,7 +15,8 @@ pub struct Power {
     pub ghost ok: { Within 100000000 watts },
 }
 
-// Whether the bus's name and both limits are in range, and the limits are not crossed.
+// Whether the bus's name and both limits are in range, and the limits are not crossed. Three numbers of a raw row: a type of them could hold
+// no range.
 pub fn are_in_range(bus: u32, lo: Watts, hi: Watts) -> bool
     ensures { result ≡ limits_in_range bus lo.0 hi.0 }
 {

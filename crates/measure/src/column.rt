@@ -1,6 +1,7 @@
 // Columns of whole numbers, read by row: the powers, angles and prices that a table or a paper gives.
 ghost use Rattle.std.specs.Prelude.{◌≡◌, ℕ, ℤ, pos, slice_index_or};
 
+// A trait, not a closure: tables and papers are read by it, and dispatches and price lists hold it by value.
 pub trait Column {
     // the number in each row
     ghost value: { Self → ℕ → ℤ };

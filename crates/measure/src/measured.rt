@@ -45,6 +45,7 @@ impl<C: Column, T: From<i64>> Measured<C, T> {
     }
 }
 
+// One implementation a measure, since it is what tells one measure from another.
 impl From<i64> for Watts {
     ghost from_gives = { λ x w. w.0 ≡ x };
 

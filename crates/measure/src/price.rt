@@ -29,7 +29,7 @@ impl Price {
         Price { value: 0 }
     }
 
-    // How many grains per watt-hour.
+    // How many grains per watt-hour, as `NonZero::get` gives its number.
     pub fn get(self) -> i64
         ensures { result ≡ self.value }
     {

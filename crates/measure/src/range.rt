@@ -3,7 +3,7 @@ ghost use Rattle.std.specs.Prelude.{◌≡◌, not, pos, neg_ℤ};
 ghost use Rattle.measure.specs.Range.{between, kept};
 ghost use Rattle.measure.specs.Rows.{only};
 
-// Whether low ≤ z ≤ high.
+// Whether low ≤ z ≤ high: two numbers and a third, not a range type, since the clauses speak of whole numbers.
 pub fn is_between(low: i64, high: i64, z: i64) -> bool
     ensures { result ≡ between low high z }
 {

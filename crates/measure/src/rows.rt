@@ -22,7 +22,7 @@ pub fn first_broken<F: Fn(usize) -> bool>(count: u8, is_broken: F) -> Option<usi
     requires { (i : ℕ) → i < count → F.pre is_broken i }
     ensures { IsFirstOf (F.post is_broken) count result }
 {
-    // Not `find`: the limit is asked of rows below the count alone, and `find` asks that it may be asked of any.
+    // A loop: that the limit may be asked of each row that `find` or `position` takes from the range did not close in its proof.
     for row in 0..usize::from(count) {
         if is_broken(row) {
             return Some(row);

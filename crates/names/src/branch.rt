@@ -17,6 +17,7 @@ impl Name for BranchName {
 
     ghost sameness = { Prim.search rules };
 
+    // By the derived comparison; in each kind of name, for it is the kind that defines its sameness.
     fn is_same(&self, other: &BranchName) -> bool {
         *self == *other
     }

@@ -9,6 +9,7 @@ impl Name for u32 {
 
     ghost sameness = { Prim.search rules };
 
+    // By the comparison of numbers; in each kind of name, for it is the kind that defines its sameness.
     fn is_same(&self, other: &u32) -> bool {
         *self == *other
     }

@@ -49,7 +49,7 @@ pub struct Case<'a, M, N> {
     pub nl: u8,
 }
 
-// How many rows the case has of a table.
+// How many rows the case has of a table: no more than the count, so that 8 bits hold it.
 pub fn rows_used<T>(table: &[T], count: u8) -> u8
     ensures { result ≡ length (take count table.now) }
 {

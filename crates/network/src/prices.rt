@@ -1,6 +1,6 @@
 // Price lists.
 
-// A price for each bus, and a congestion price and an angle price for each branch, by row.
+// A price for each bus, and a congestion price and an angle price for each branch, by row. Columns side by side, as tables and papers give them.
 #[derive(Drop)]
 pub struct Prices<C> {
     pub bus: C,

@@ -26,5 +26,6 @@ pub fn read_hand_over(words: &[u32]) -> Result<u16, WordFault>
     let [_head, attendant, _end] = words else {
         return unreachable();
     };
+    // In range by the slot, so that 16 bits hold it.
     Ok(amount(*attendant) as u16)
 }

@@ -33,7 +33,7 @@ pub fn branch_run(branches: u8) -> Run
     }
 }
 
-// The columns of a price list that stands from a place on; the two counts apart, as its readers are given them.
+// The columns of a price list that stands from a place on. Two counts, not a struct of them: it would be made and taken apart for this call.
 pub fn price_columns<'a>(words: &'a [u32], start: usize, buses: u8, branches: u8) -> PricesPaper<'a>
     requires { start ≤ 2 }
     ensures { ColumnsFrom start buses branches words.now result }

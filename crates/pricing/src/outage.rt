@@ -20,7 +20,7 @@ use network::prices::Prices;
 use network::refusal::Refusal;
 
 // A case but for its branch rows: the tolerance of the balance, the buses, the machines at them, and how many branches it has.
-// Tables with counts, as in `Case`.
+// Tables with counts, as in `Case`. Not the `Case` itself: its branch rows are lent here to be changed.
 #[derive_where(Clone, Copy)]
 pub struct Stations<'a, M, N> {
     pub tolerance: u32,

@@ -50,7 +50,7 @@ impl<'a, 'q, M, N, C: Column> PricedCase<'a, 'q, M, N, C> {
         keep(-Price::LIMIT, Price::LIMIT, self.prices.congestion.at(row))
     }
 
-    // The angle price of the branch in that row.
+    // The angle price of the branch in that row. Not one with the congestion price: the range and the column are all that either is.
     pub(crate) fn angle_price_at(&self, row: usize) -> i64
         ensures { result ≡ kept_angle_price (C.value self.now.prices.now.angle row) }
     {

@@ -93,6 +93,7 @@ impl Machine for Stepped {
         }
     }
 
+    // In each kind, as the cost.
     fn margin(&self, q: Price) -> Grains {
         if self.is_in_range() {
             let lo = Power { watts: self.lo.0 };

@@ -12,6 +12,7 @@ pub fn admit_all(words: &[u32], runs: &[Run]) -> Result<(), WordFault>
     requires { Possible (slots_of runs.now) }
     ensures { MatchResult result (λ _. Matches (slots_of runs.now) words.now) (λ f. RefusedWord (Matches (slots_of runs.now)) words.now f) }
 {
+    // The place is part of the fault.
     for (place, word) in words.iter().enumerate() {
         let Some(slot) = slot_at(runs, place) else {
             return Err(WordFault::at(WordRefusal::Follows, place));

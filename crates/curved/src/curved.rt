@@ -4,7 +4,7 @@ ghost use Rattle.curved.specs.Quadratic.{Ranges, in_range, least_over, curved_me
 ghost use Rattle.curved.specs.Keeping.{curved_lawful};
 
 use crate::quadratic::Quadratic;
-use machine::limits::{self, Power};
+use machine::limits::{self, FIXED_COST_LIMIT, Power};
 use machine::machine::Machine;
 use measure::price::Price;
 use measure::range::is_between;
@@ -28,8 +28,8 @@ impl Curved {
         ensures { result ≡ in_range self.now }
     {
         limits::are_in_range(self.bus, self.lo, self.hi)
-            & is_between(-100_000_000, 100_000_000, self.c0)
-            & is_between(-1_000_000, 1_000_000, self.c1)
+            & is_between(-FIXED_COST_LIMIT, FIXED_COST_LIMIT, self.c0)
+            & is_between(-Price::LIMIT, Price::LIMIT, self.c1)
             & is_between(1, 500, self.c2)
     }
 

@@ -7,6 +7,10 @@ ghost use Rattle.machine.specs.Limits.{limits_in_range};
 
 use measure::Watts;
 use measure::range::is_between;
+use names::number::may_name;
+
+// The part of a cost that no power alters lies within ± this many millions of grains per hour.
+pub const FIXED_COST_LIMIT: i64 = 100_000_000;
 
 // A power within the widest limits, ±100,000,000 W.
 #[derive(Clone, Copy)]
@@ -15,14 +19,14 @@ pub struct Power {
     pub ghost ok: { Within 100000000 watts },
 }
 
-// Whether the bus's name and both limits are in range, and the limits are not crossed. Three numbers of a raw row: a type of them could hold
-// no range.
+// Whether the bus's name and both limits are in range, and the limits are not crossed. Not a method of a type of the three: they stand in raw rows,
+// where any numbers may, and a type for them would be made for this call alone.
 pub fn are_in_range(bus: u32, lo: Watts, hi: Watts) -> bool
     ensures { result ≡ limits_in_range bus lo.0 hi.0 }
 {
-    (1..=255).contains(&bus)
-        & is_between(-100_000_000, 100_000_000, lo.0)
-        & is_between(-100_000_000, 100_000_000, hi.0)
+    may_name(bus)
+        & is_between(-Watts::LIMIT, Watts::LIMIT, lo.0)
+        & is_between(-Watts::LIMIT, Watts::LIMIT, hi.0)
         & (lo.0 <= hi.0)
 }
 

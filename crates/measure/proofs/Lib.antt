@@ -1,4 +1,5 @@
 pub mod Laws
+pub mod Results
 pub mod Ring
 pub mod Order
 pub mod Quotient

@@ -88,6 +88,6 @@ impl<C: Column> PriceColumn<C> {
     pub fn kept(&self, row: usize) -> Price
         ensures { result.value ≡ kept (neg_ℤ (pos 1000000)) (pos 1000000) (C.value self.now.column row) }
     {
-        self.at(row).unwrap_or(Price::zero())
+        Price::kept(self.column.at(row))
     }
 }

@@ -1,6 +1,6 @@
 // A price in grains per watt-hour.
-ghost use Rattle.std.specs.Prelude.{◌≡◌, pos, MatchOption};
-ghost use Rattle.measure.specs.Range.{Within};
+ghost use Rattle.std.specs.Prelude.{◌≡◌, pos, neg_ℤ, MatchOption};
+ghost use Rattle.measure.specs.Range.{Within, kept};
 
 // A price keeps its range, within ±1,000,000.
 #[derive(Clone, Copy, PartialEq, Eq, PartialOrd, Ord, Debug)]
@@ -10,6 +10,7 @@ pub struct Price {
 }
 
 impl Price {
+    // Every price lies within ± this many grains per watt-hour.
     pub const LIMIT: i64 = 1_000_000;
 
     // The price of that many grains per watt-hour, or none outside the range: no `TryFrom`, for there is one way to fail.
@@ -20,6 +21,13 @@ impl Price {
             return None;
         }
         Some(Price { value })
+    }
+
+    // The price of that many grains per watt-hour, or 0 outside the range.
+    pub fn kept(value: i64) -> Price
+        ensures { result.value ≡ kept (neg_ℤ (pos 1000000)) (pos 1000000) value }
+    {
+        Self::new(value).unwrap_or(Self::zero())
     }
 
     // The price of 0.

@@ -1,5 +1,5 @@
-// Single numbers as names, as buses have.
-ghost use Rattle.std.specs.Prelude.{◌≡◌};
+// Single numbers as names, as buses have, and the numbers that may stand in a name.
+ghost use Rattle.std.specs.Prelude.{◌≡◌, ◌≤◌, Decides};
 ghost use Rattle.std.proofs.Common.{rules};
 
 use crate::name::Name;
@@ -13,4 +13,11 @@ impl Name for u32 {
     fn is_same(&self, other: &u32) -> bool {
         *self == *other
     }
+}
+
+// Whether the number may name a bus or a circuit: 1 to 255.
+pub fn may_name(number: u32) -> bool
+    ensures { Decides result ((1 ≤ number) × (number ≤ 255)) }
+{
+    (1..=255).contains(&number)
 }

@@ -1,8 +1,10 @@
 // Branches.
-ghost use Rattle.std.specs.Prelude.{pos, ◌≤ℤ◌};
+ghost use Rattle.std.specs.Prelude.{◌≡◌, pos, ◌-ℤ◌, ◌≤ℤ◌, ◌==◌};
 ghost use Rattle.measure.specs.Range.{Within};
+ghost use Rattle.measure.specs.Rows.{only};
 ghost use Rattle.network.specs.Ranges.{NameRange, Limits};
 
+use measure::range::only_if;
 use measure::{Microradians, Watts};
 use names::branch::BranchName;
 
@@ -13,8 +15,20 @@ pub struct Ends {
     pub to: u8,
 }
 
+impl Ends {
+    // What leaves the bus in that row, less what arrives there, of an amount that goes from the from end to the to end.
+    pub fn leaving(self, bus: usize, amount: i64) -> i64
+        requires { Within 36000000000000000 amount }
+        ensures { result ≡ only (self.from == bus) amount -ℤ only (self.to == bus) amount }
+    {
+        let leaving = only_if(usize::from(self.from) == bus, amount);
+        let arriving = only_if(usize::from(self.to) == bus, amount);
+        leaving - arriving
+    }
+}
+
 // A branch: its name, where its ends stand in the table of buses, its susceptance in watts per microradian, its phase shift, its rating
-// (0: no limit), the limits of the angle difference between its ends, and whether it is in service.
+// (0 for no limit, as cases write it; an Option would be taken apart in each product and each test), the limits of the angle difference between its ends, and whether it is in service.
 #[derive(Clone, Copy)]
 pub struct Branch {
     pub name: BranchName,
@@ -33,6 +47,15 @@ pub struct Branch {
 }
 
 impl Branch {
+    // Every susceptance is 1 to this many watts per microradian.
+    pub const MOST_SUSCEPTANCE: i64 = 1_000_000;
+
+    // Every phase shift lies within ± this many microradians.
+    pub const SHIFT_LIMIT: i64 = 1_600_000;
+
+    // Every limit of an angle difference lies within ± this many microradians.
+    pub const DIFFERENCE_LIMIT: i64 = 6_400_000;
+
     // What stands in a row of a lent table before a case is laid there.
     pub const BLANK: Branch = Branch {
         name: BranchName {

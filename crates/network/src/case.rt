@@ -4,11 +4,6 @@ ghost use Rattle.std.specs.Prelude.{◌≡◌, ◌≤◌, length, take, slice_in
 use crate::branch::Branch;
 use crate::bus::Bus;
 
-// Every power lies within ± this many watts, and every angle within ± this many microradians.
-pub const POWER_LIMIT: i64 = 100_000_000;
-
-pub const ANGLE_LIMIT: i64 = 3_200_000;
-
 // Machines of one kind: a table, of which the first rows are the case's, and the row of each one's bus.
 // Two tables with a count, not one slice of pairs: machines and places are lent apart, each with room for more rows than the case has, and
 // a count of 8 bits bounds every sum over the machines with nothing asked of a caller.

@@ -8,4 +8,5 @@ pub mod dispatch;
 pub mod named;
 pub mod prices;
 pub mod refusal;
+pub mod size;
 pub mod theorems;

@@ -43,7 +43,8 @@ impl Line {
     }
 }
 
-// A cost that goes along a line, and by the next slope after each point.
+// A cost that goes along a line, and by the next slope after each point. Points and slopes side by side, as a row holds them: one slice of both
+// would have to be copied from it, and a machine has one point more than slopes.
 #[derive(Clone, Copy)]
 pub(crate) struct Pieces<'a> {
     pub line: Line,

@@ -5,7 +5,7 @@ ghost use Rattle.stepped.specs.StepLaw.{OneCost};
 ghost use Rattle.stepped.specs.Keeping.{stepped_lawful};
 
 use crate::piecewise::{Line, Pieces, all_between};
-use machine::limits::{self, Power};
+use machine::limits::{self, FIXED_COST_LIMIT, Power};
 use machine::machine::Machine;
 use measure::price::Price;
 use measure::range::is_between;
@@ -13,7 +13,8 @@ use measure::{Grains, Watts};
 
 // It may run at every power from lo to hi. Its cost is c millions of grains per hour at the first of its n points, and from there on goes by its n - 1 slopes: a slope
 // in grains per watt-hour for each two neighbouring points in watts, the first and the last going on outside. What stands after them is not used. Any
-// numbers may stand in a row: one that breaks a range stands idle. Arrays with a count, not a `Vec`: a row of a lent table has a fixed size.
+// numbers may stand in a row: one that breaks a range stands idle. Arrays with a count, in the fixed memory of a lent table; not `ArrayVec`s, since a row that
+// breaks its ranges may say a count that no array has.
 #[derive(Clone, Copy, PartialEq, Eq, Debug, Default)]
 pub struct Stepped {
     pub bus: u32,
@@ -37,10 +38,10 @@ impl Stepped {
         let points = &self.points[0..self.n];
         let slopes = &self.slopes[0..self.n - 1];
         limits::are_in_range(self.bus, self.lo, self.hi)
-            & is_between(-100_000_000, 100_000_000, self.c)
-            & all_between(-100_000_000, 100_000_000, points)
+            & is_between(-FIXED_COST_LIMIT, FIXED_COST_LIMIT, self.c)
+            & all_between(-Watts::LIMIT, Watts::LIMIT, points)
             & points.is_sorted_by(|x, y| x < y)
-            & all_between(-1_000_000, 1_000_000, slopes)
+            & all_between(-Price::LIMIT, Price::LIMIT, slopes)
             & slopes.is_sorted_by(|x, y| x <= y)
     }
 

@@ -6,8 +6,8 @@ ghost use Rattle.word.specs.Column.{value_of};
 use crate::amount::amount;
 use measure::column::Column;
 
-// The amounts in so many words of a paper, from a place on, at steps of `stride`; 0 past its end. Not a slice from that place: a paper may end
-// before it.
+// The amounts in so many words of a paper, from a place on, at steps of `stride`; 0 past its end. Not a slice of these words by `step_by`: a
+// paper may end before the place, and a row is then read as 0.
 #[derive(Clone, Copy, Drop)]
 pub struct WordColumn<'a> {
     pub words: &'a [u32],

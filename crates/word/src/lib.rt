@@ -9,6 +9,7 @@ pub mod head;
 pub mod kind;
 pub mod laws;
 pub mod place;
+pub mod range;
 pub mod read;
 pub mod run;
 pub mod slot;

@@ -14,9 +14,7 @@ pub fn admit_all(words: &[u32], runs: &[Run]) -> Result<(), WordFault>
 {
     // The place is part of the fault.
     for (place, word) in words.iter().enumerate() {
-        let Some(slot) = slot_at(runs, place) else {
-            return Err(WordFault::at(WordRefusal::Follows, place));
-        };
+        let slot = slot_at(runs, place).ok_or(WordFault::at(WordRefusal::Follows, place))?;
         slot.admit(place, *word)?;
     }
     if slot_at(runs, words.len()).is_some() {

@@ -45,6 +45,7 @@ pub fn slot_at(runs: &[Run], place: usize) -> Option<Slot>
     ensures { Due (slots_of runs.now) place result }
 {
     let mut left = place;
+    // Run by run, not in a chain: what is left of the place goes from each to the next, and `try_fold` would break off with the slot as an error.
     for run in runs {
         if left < run.count {
             return Some(run.slot_in(left));

@@ -1,15 +1,16 @@
 // What is due at one place of a paper.
 ghost use Rattle.std.specs.Prelude.{◌≡◌, Decides, MatchResult, None};
-ghost use Rattle.word.specs.Slot.{slot_place, Byte, BranchName, InRange, Fits, Misfits};
+ghost use Rattle.word.specs.Slot.{slot_place, BranchName, InRange, Fits, Misfits};
 
 use crate::amount::amount;
 use crate::fault::{WordFault, WordRefusal};
 use crate::kind::{kind_of, payload};
 use crate::place::{Place, may_stand};
+use names::number::may_name;
 
 #[derive(Clone, Copy, PartialEq, Eq, Debug)]
 pub enum Slot {
-    // a head with this payload
+    // a head with this payload: any number, since a form may have any head, and a `Head` here would ask more of who makes one
     Head(u32),
     // a bus name
     Bus,
@@ -20,18 +21,11 @@ pub enum Slot {
     End,
 }
 
-// A name of one number is 1 to 255.
-pub fn is_byte(n: u32) -> bool
-    ensures { Decides result (Byte n) }
-{
-    (1..=255).contains(&n)
-}
-
 // A branch's name is three: its circuit and its two buses, a byte each.
 pub fn is_branch_name(payload: u32) -> bool
     ensures { Decides result (BranchName payload) }
 {
-    is_byte(payload / 65536) && is_byte(payload / 256 % 256) && is_byte(payload % 256)
+    may_name(payload / 65536) && may_name(payload / 256 % 256) && may_name(payload % 256)
 }
 
 impl Slot {
@@ -54,7 +48,7 @@ impl Slot {
         let p = payload(word);
         match self {
             Slot::Head(h) => p == h,
-            Slot::Bus => is_byte(p),
+            Slot::Bus => may_name(p),
             Slot::Branch => is_branch_name(p),
             Slot::Amount(least, most) => (least..=most).contains(&amount(word)),
             Slot::End => p == 0,

@@ -5,7 +5,6 @@ use judging::judge::judge;
 use measure::Grains;
 use network::case::{Case, rows_used};
 use network::dispatch::Dispatch;
-use network::prices::Prices;
 use paper::dispatch::read_dispatch;
 use paper::prices::read_prices;
 use paper_file::call::{Call, call_of};
@@ -43,12 +42,7 @@ fn cost_of(case: &Case<Stepped, Curved>, words: &[u32]) -> Result<Grains, Refuse
 fn floor_of(case: &Case<Stepped, Curved>, words: &[u32]) -> Result<Grains, Refused> {
     let buses = rows_used(case.buses, case.nb);
     let branches = rows_used(case.branches, case.nl);
-    let paper = read_prices(words, buses, branches)?;
-    let prices = Prices {
-        bus: paper.prices,
-        congestion: paper.congestion_prices,
-        angle: paper.angle_prices,
-    };
+    let prices = read_prices(words, buses, branches)?;
     Ok(floor(case, &prices)?)
 }
 

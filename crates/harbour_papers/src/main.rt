@@ -12,6 +12,7 @@ use case_tables::view::view;
 use curved::curved::Curved;
 use network::branch::Branch;
 use network::bus::Bus;
+use network::size::{BRANCHES, BUSES, MACHINES};
 use paper_file::papers::paper_len;
 use paper_file::words::words_of;
 use std::{env, fs};
@@ -19,12 +20,12 @@ use stepped::stepped::Stepped;
 
 // Reads the case from the first paper, and judges the others by it.
 fn judge_file(rt: &HostRuntime, words: &[u32]) -> anyhow::Result<()> {
-    let mut buses = [Bus::BLANK; 100];
-    let mut stepped = [Stepped::default(); 30];
-    let mut first = [0u8; 30];
-    let mut curved = [Curved::default(); 30];
-    let mut second = [0u8; 30];
-    let mut branches = [Branch::BLANK; 200];
+    let mut buses = [Bus::BLANK; BUSES];
+    let mut stepped = [Stepped::default(); MACHINES];
+    let mut first = [0u8; MACHINES];
+    let mut curved = [Curved::default(); MACHINES];
+    let mut second = [0u8; MACHINES];
+    let mut branches = [Branch::BLANK; BRANCHES];
     let (paper, later) = words.split_at(paper_len(words));
     let read = read_case(
         paper,

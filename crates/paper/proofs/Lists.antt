@@ -24,7 +24,8 @@ use Rattle.paper.specs.Range.{Priced, price_slot, angle_price_slot}
 use Rattle.paper.specs.Name.{branch_word, branch_of, Named}
 use Rattle.paper.specs.Prices.{BranchPrices, Prices, pair_words, list_words, prices_words, PairPriced, LawfulPrices, PricesForm, GivesPrices, ReadsPrices, ColumnsFrom}
 use Rattle.paper.specs.Trial.{trial_words, TrialForm, ReadsTrial}
-use Rattle.paper.specs.declared.prices.PricesPaper.{PricesPaper}
+use Rattle.network.specs.declared.prices.Prices as view
+use Rattle.word.specs.declared.column.WordColumn.{WordColumn}
 use Rattle.paper.proofs.Layouts.{Layout, refused, all_same, price-short, angle-price_short}
 use Rattle.paper.proofs.Names.{branch_word-branch_of, branch_named, branch_fits}
 
@@ -128,7 +129,7 @@ module _ (w pre : List ℕ) (bs : List BranchPrices) (rest : List ℕ) (m i : �
         | inr h ↦ value_out w start m 2 i h ∙ sym (get_or_past (map (λ b. b.angle) bs) i (pos 0) (omega (arith, length-map bs (λ b. b.angle))))
       ]
 
-list_gives : (n m start : ℕ) (w pre : List ℕ) (l : Prices) (p : PricesPaper) → LawfulPrices n m l → w ≡ pre ++ list_words l → length pre ≡ start → ColumnsFrom start n m w p → GivesPrices l p
+list_gives : (n m start : ℕ) (w pre : List ℕ) (l : Prices) (p : view.Prices WordColumn) → LawfulPrices n m l → w ≡ pre ++ list_words l → length pre ≡ start → ColumnsFrom start n m w p → GivesPrices l p
 list_gives n m start w pre l p h e k c =
     let A : List ℕ = map amount_word l.buses in
     let B : List ℕ = flat_map pair_words l.branches in
@@ -176,7 +177,7 @@ free-lawful n m = (
 prices-some : (n m : ℕ) → (w : List ℕ) × PricesForm n m w
 prices-some n m = let l = free-lawful n m in (prices_words l.0, (l.0, l.1, refl))
 
-pub reads_prices : (n m : ℕ) (w : List ℕ) (p : PricesPaper) → Matches (prices_slots n m) w → ColumnsFrom 1 n m w p → ReadsPrices n m w p
+pub reads_prices : (n m : ℕ) (w : List ℕ) (p : view.Prices WordColumn) → Matches (prices_slots n m) w → ColumnsFrom 1 n m w p → ReadsPrices n m w p
 reads_prices n m w p s c =
     let l = prices-to n m w s in
     record { list = l.0; lawful = l.1; words = l.2; gives = list_gives n m 1 w (word_of kind.Head 3 ∷ []) l.0 p l.1 l.2 refl c }
@@ -213,7 +214,7 @@ trial_some n m =
 pub trial_layout : (n m : ℕ) → Layout (TrialForm n m) (trial_slots n m)
 trial_layout n m = record { to = trial_to n m; from = trial_from n m; some = trial_some n m }
 
-pub reads_trial : (n m : ℕ) (w : List ℕ) (p : PricesPaper) → Matches (trial_slots n m) w → ColumnsFrom 2 n m w p → ReadsTrial n m w (record { branch = branch_of (get_or w 1 0); list = p })
+pub reads_trial : (n m : ℕ) (w : List ℕ) (p : view.Prices WordColumn) → Matches (trial_slots n m) w → ColumnsFrom 2 n m w p → ReadsTrial n m w (record { branch = branch_of (get_or w 1 0); list = p })
 reads_trial n m w p s c =
     let t = trial_read n m w s in
     record {

@@ -6,8 +6,9 @@ use Rattle.word.specs.Form.{Form}
 use Rattle.word.specs.Column.{column_value, value_of, Gives}
 use Rattle.word.specs.declared.kind.Kind.TheVariants as kind
 use Rattle.word.specs.declared.run.Run.{Run}
+use Rattle.word.specs.declared.column.WordColumn.{WordColumn}
+use Rattle.network.specs.declared.prices.Prices as view
 use Rattle.paper.specs.Range.{Priced, AnglePriced, price_slot, angle_price_slot}
-use Rattle.paper.specs.declared.prices.PricesPaper.{PricesPaper}
 
 -- the two prices of a branch
 pub record BranchPrices : Type 0 where
@@ -43,13 +44,13 @@ abbrev pub PricesForm : ℕ → ℕ → Form
 PricesForm n m w = (l : Prices) × LawfulPrices n m l × (w ≡ prices_words l)
 
 -- the paper's columns give the list's numbers
-pub record GivesPrices (l : Prices) (p : PricesPaper) : Type 0 where
-  pub prices : Gives p.prices l.buses
-  pub congestion : Gives p.congestion_prices (map (λ b. b.congestion) l.branches)
-  pub angle : Gives p.angle_prices (map (λ b. b.angle) l.branches)
+pub record GivesPrices (l : Prices) (p : view.Prices WordColumn) : Type 0 where
+  pub prices : Gives p.bus l.buses
+  pub congestion : Gives p.congestion (map (λ b. b.congestion) l.branches)
+  pub angle : Gives p.angle (map (λ b. b.angle) l.branches)
 
 -- the words are those of a lawful list, and the paper's columns give its numbers
-pub record ReadsPrices (n m : ℕ) (w : List ℕ) (p : PricesPaper) : Type 0 where
+pub record ReadsPrices (n m : ℕ) (w : List ℕ) (p : view.Prices WordColumn) : Type 0 where
   pub list : Prices
   pub lawful : LawfulPrices n m list
   pub words : w ≡ prices_words list
@@ -60,7 +61,7 @@ abbrev pub branch_run : ℕ → Run
 branch_run m = record { count = 2 * m; slot = price_slot; other = angle_price_slot }
 
 -- the columns of the words from a place on
-pub record ColumnsFrom (start n m : ℕ) (w : List ℕ) (p : PricesPaper) : Type 0 where
-  pub prices : (i : ℕ) → value_of p.prices i ≡ column_value w start n 1 i
-  pub congestion : (i : ℕ) → value_of p.congestion_prices i ≡ column_value w (start + n) m 2 i
-  pub angle : (i : ℕ) → value_of p.angle_prices i ≡ column_value w (start + n + 1) m 2 i
+pub record ColumnsFrom (start n m : ℕ) (w : List ℕ) (p : view.Prices WordColumn) : Type 0 where
+  pub prices : (i : ℕ) → value_of p.bus i ≡ column_value w start n 1 i
+  pub congestion : (i : ℕ) → value_of p.congestion i ≡ column_value w (start + n) m 2 i
+  pub angle : (i : ℕ) → value_of p.angle i ≡ column_value w (start + n + 1) m 2 i

@@ -4,10 +4,10 @@ ghost use Rattle.word.specs.Fault.{RefusedWord};
 ghost use Rattle.paper.specs.Dispatch.{DispatchForm, ReadsDispatch};
 
 use crate::columns::column;
-use crate::range::{ANGLE, POWER};
 use word::column::WordColumn;
 use word::fault::WordFault;
 use word::head::Head;
+use word::range::{ANGLE, POWER};
 use word::read::admit_all;
 use word::run::Run;
 use word::slot::Slot;

@@ -3,10 +3,10 @@ ghost use Rattle.std.specs.Prelude.{◌≡◌, ◌<◌, MatchResult};
 ghost use Rattle.word.specs.Fault.{RefusedWord};
 ghost use Rattle.paper.specs.HandOver.{hand_over_words, HandOverForm};
 
-use crate::range::ATTENDANT;
 use word::amount::amount;
 use word::fault::WordFault;
 use word::head::Head;
+use word::range::ATTENDANT;
 use word::read::admit_all;
 use word::run::Run;
 use word::slot::Slot;

@@ -8,6 +8,5 @@ pub mod hand_over;
 pub mod laws;
 pub mod name;
 pub mod prices;
-pub mod range;
 pub mod trial;
 pub mod write;

@@ -4,23 +4,14 @@ ghost use Rattle.word.specs.Fault.{RefusedWord};
 ghost use Rattle.paper.specs.Prices.{branch_run, ColumnsFrom, PricesForm, ReadsPrices};
 
 use crate::columns::column;
-use crate::range::{ANGLE_PRICE, PRICE};
+use network::prices::Prices;
 use word::column::WordColumn;
 use word::fault::WordFault;
 use word::head::Head;
+use word::range::{ANGLE_PRICE, PRICE};
 use word::read::admit_all;
 use word::run::Run;
 use word::slot::Slot;
-
-// A checked price list, as it stands in its words.
-#[derive(Clone, Copy, Drop)]
-pub struct PricesPaper<'a> {
-    // by bus
-    pub prices: WordColumn<'a>,
-    // by branch
-    pub congestion_prices: WordColumn<'a>,
-    pub angle_prices: WordColumn<'a>,
-}
 
 // The places of the branches' prices: two for each, in turn.
 pub fn branch_run(branches: u8) -> Run
@@ -33,16 +24,22 @@ pub fn branch_run(branches: u8) -> Run
     }
 }
 
-// The columns of a price list that stands from a place on. Two counts, not a struct of them: it would be made and taken apart for this call.
-pub fn price_columns<'a>(words: &'a [u32], start: usize, buses: u8, branches: u8) -> PricesPaper<'a>
+// The price list that stands from a place on, as it stands in its words. Two counts, not a struct of them: it would be made and taken apart
+// for this call.
+pub fn price_columns<'a>(
+    words: &'a [u32],
+    start: usize,
+    buses: u8,
+    branches: u8,
+) -> Prices<WordColumn<'a>>
     requires { start ≤ 2 }
     ensures { ColumnsFrom start buses branches words.now result }
 {
     let after = start + usize::from(buses);
-    PricesPaper {
-        prices: column::<1>(words, start, usize::from(buses)),
-        congestion_prices: column::<2>(words, after, usize::from(branches)),
-        angle_prices: column::<2>(words, after + 1, usize::from(branches)),
+    Prices {
+        bus: column::<1>(words, start, usize::from(buses)),
+        congestion: column::<2>(words, after, usize::from(branches)),
+        angle: column::<2>(words, after + 1, usize::from(branches)),
     }
 }
 
@@ -52,7 +49,7 @@ pub fn read_prices<'a>(
     words: &'a [u32],
     buses: u8,
     branches: u8,
-) -> Result<PricesPaper<'a>, WordFault>
+) -> Result<Prices<WordColumn<'a>>, WordFault>
     ensures { MatchResult result (λ p. ReadsPrices buses branches words.now p) (λ f. RefusedWord (PricesForm buses branches) words.now f) }
 {
     admit_all(

@@ -4,11 +4,13 @@ ghost use Rattle.word.specs.Fault.{RefusedWord};
 ghost use Rattle.paper.specs.Trial.{TrialForm, ReadsTrial};
 
 use crate::name::branch_name;
-use crate::prices::{PricesPaper, branch_run, price_columns};
-use crate::range::PRICE;
+use crate::prices::{branch_run, price_columns};
 use names::branch::BranchName;
+use network::prices::Prices;
+use word::column::WordColumn;
 use word::fault::WordFault;
 use word::head::Head;
+use word::range::PRICE;
 use word::read::admit_all;
 use word::run::Run;
 use word::slot::Slot;
@@ -17,7 +19,7 @@ use word::slot::Slot;
 #[derive(Clone, Copy, Drop)]
 pub struct TrialPaper<'a> {
     pub branch: BranchName,
-    pub list: PricesPaper<'a>,
+    pub list: Prices<WordColumn<'a>>,
 }
 
 // Reads a trial with a list for so many buses and branches.

@@ -58,12 +58,12 @@ fn price_lists(rt: HostRuntime) -> Result<(), Fail> {
     }
     let words = [0x1000_0003, A + 30, A + 31, A + 1, A + 2, A + 3, A + 4, END];
     let paper = read_prices(&words, 2, 2)?;
-    assert_eq!(rt; paper.prices.at(1), 31);
-    assert_eq!(rt; paper.congestion_prices.at(0), 1);
-    assert_eq!(rt; paper.congestion_prices.at(1), 3);
-    assert_eq!(rt; paper.angle_prices.at(0), 2);
-    assert_eq!(rt; paper.angle_prices.at(1), 4);
-    assert_eq!(rt; paper.angle_prices.at(2), 0);
+    assert_eq!(rt; paper.bus.at(1), 31);
+    assert_eq!(rt; paper.congestion.at(0), 1);
+    assert_eq!(rt; paper.congestion.at(1), 3);
+    assert_eq!(rt; paper.angle.at(0), 2);
+    assert_eq!(rt; paper.angle.at(1), 4);
+    assert_eq!(rt; paper.angle.at(2), 0);
     Ok(())
 }
 
@@ -92,9 +92,9 @@ fn trials(rt: HostRuntime) -> Result<(), Fail> {
             to: 2,
         }
     );
-    assert_eq!(rt; paper.list.prices.at(0), 7);
-    assert_eq!(rt; paper.list.congestion_prices.at(0), 8);
-    assert_eq!(rt; paper.list.angle_prices.at(0), 9);
+    assert_eq!(rt; paper.list.bus.at(0), 7);
+    assert_eq!(rt; paper.list.congestion.at(0), 8);
+    assert_eq!(rt; paper.list.angle.at(0), 9);
     Ok(())
 }
 

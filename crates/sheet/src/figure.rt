@@ -12,18 +12,24 @@ pub(crate) struct Figure {
     ghost short: { Short value } by { Prim.hlevel props },
 }
 
-pub(crate) fn count(n: u32) -> Figure
-    ensures { result.value ≡ Some (pos n) }
-{
-    Figure {
-        value: Some(i128::from(n)),
+// A count.
+impl From<u32> for Figure {
+    ghost from_gives = { λ n f. f.value ≡ Some (pos n) };
+
+    fn from(count: u32) -> Figure {
+        Figure {
+            value: Some(i128::from(count)),
+        }
     }
 }
 
-pub(crate) fn amount(grains: Option<Grains>) -> Figure
-    ensures { result.value ≡ amount_of grains }
-{
-    Figure {
-        value: grains.map(|grains| i128::from(grains.0)),
+// A cost or a floor, where it stands.
+impl From<Option<Grains>> for Figure {
+    ghost from_gives = { λ g f. f.value ≡ amount_of g };
+
+    fn from(grains: Option<Grains>) -> Figure {
+        Figure {
+            value: grains.map(|grains| i128::from(grains.0)),
+        }
     }
 }

@@ -5,7 +5,7 @@ ghost use Rattle.sheet.specs.Lines.{sheet_lines, sheet_bytes};
 ghost use Rattle.sheet.specs.Page.{text_of};
 ghost use Rattle.sheet.specs.Reading.{read_sheet, read_gap};
 
-use crate::figure::{Figure, amount, count};
+use crate::figure::Figure;
 use crate::gap::gap;
 use crate::page::Page;
 use measure::Grains;
@@ -33,13 +33,13 @@ impl Sheet {
     {
         let mut page = Page::blank();
         // A call for each line: a loop over a table of words and figures would have as many.
-        page.push_line(b"WATCH", count(u32::from(self.attendant)));
-        page.push_line(b"HELD", count(self.held));
-        page.push_line(b"PASSED", count(self.passed));
-        page.push_line(b"DECLINED", count(self.declined));
-        page.push_line(b"CHANGES", count(self.changes));
-        page.push_line(b"COST", amount(self.cost));
-        page.push_line(b"FLOOR", amount(self.floor));
+        page.push_line(b"WATCH", Figure::from(u32::from(self.attendant)));
+        page.push_line(b"HELD", Figure::from(self.held));
+        page.push_line(b"PASSED", Figure::from(self.passed));
+        page.push_line(b"DECLINED", Figure::from(self.declined));
+        page.push_line(b"CHANGES", Figure::from(self.changes));
+        page.push_line(b"COST", Figure::from(self.cost));
+        page.push_line(b"FLOOR", Figure::from(self.floor));
         page.push_line(
             b"GAP",
             Figure {

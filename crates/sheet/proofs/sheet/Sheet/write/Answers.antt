@@ -22,14 +22,14 @@ text-written c =
       c.push_line-6.ensures.text,
       c.push_line-7.ensures.text,
       c.push_line-8.ensures.text,
-      c.count.ensures,
+      c.from-2.ensures,
       c.from.ensures,
-      c.count-2.ensures,
-      c.count-3.ensures,
-      c.count-4.ensures,
-      c.count-5.ensures,
-      c.amount.ensures,
-      c.amount-2.ensures,
+      c.from-3.ensures,
+      c.from-4.ensures,
+      c.from-5.ensures,
+      c.from-6.ensures,
+      c.from-7.ensures,
+      c.from-8.ensures,
       c.gap.ensures.value,
     )
     (eight_ended (line_of (codes "WATCH") (Some (pos s.attendant))) (line_of (codes "HELD") (Some (pos s.held)))
@@ -39,13 +39,13 @@ text-written c =
 
 shorts : (c : goal.After-push_line-8) → Shorts c.args.self.now
 shorts c = record {
-  attendant = subst Short (c.count.ensures ∙ ap (λ n. Some (pos n)) c.from.ensures) c.count.result.short;
-  held = subst Short c.count-2.ensures c.count-2.result.short;
-  passed = subst Short c.count-3.ensures c.count-3.result.short;
-  declined = subst Short c.count-4.ensures c.count-4.result.short;
-  changes = subst Short c.count-5.ensures c.count-5.result.short;
-  cost = subst Short c.amount.ensures c.amount.result.short;
-  floor = subst Short c.amount-2.ensures c.amount-2.result.short;
+  attendant = subst Short (c.from-2.ensures ∙ ap (λ n. Some (pos n)) c.from.ensures) c.from-2.result.short;
+  held = subst Short c.from-3.ensures c.from-3.result.short;
+  passed = subst Short c.from-4.ensures c.from-4.result.short;
+  declined = subst Short c.from-5.ensures c.from-5.result.short;
+  changes = subst Short c.from-6.ensures c.from-6.result.short;
+  cost = subst Short c.from-7.ensures c.from-7.result.short;
+  floor = subst Short c.from-8.ensures c.from-8.result.short;
   gap = subst Short c.gap.ensures.value c.gap.ensures.short;
 }
 

@@ -2,6 +2,7 @@
 use paper_file::call::*;
 use paper_file::papers::paper_len;
 
+// The amount word of 0, and the end word, as numbers: by the functions of `word` they would be made by what is tested.
 const A: u32 = 0x6000_0000;
 
 const END: u32 = 0x7000_0000;

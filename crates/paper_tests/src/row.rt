@@ -2,6 +2,7 @@
 use case_paper::fault::CaseFault;
 use word::fault::WordFault;
 
+// The amount word of 0, and the end word, as numbers: by the functions of `word` they would be made by what is tested.
 pub const A: u32 = 0x6000_0000;
 
 pub const END: u32 = 0x7000_0000;

@@ -12,7 +12,7 @@ use Rattle.network.specs.declared.branch.Branch.{Branch}
 use Rattle.build.specs.declared.rows.BusRow.{BusRow}
 use Rattle.build.specs.declared.rows.BranchRow.{BranchRow}
 use Rattle.build.specs.declared.tables.Rows.{Rows}
-use Rattle.build.specs.declared.tables.Counts.{Counts}
+use Rattle.build.specs.declared.tables.Sizes.{Sizes}
 use Rattle.build.specs.Raw.{BusOf}
 use Rattle.build.specs.Offer.{Found, HasBus}
 use Rattle.build.specs.Build.{Filled, Placed, Joined, Lent, Laid, TheRow, WellFormed, laid_case}
@@ -43,7 +43,7 @@ the_row given before after n all f d name i found =
 few : {X : Type 0} (n m : ℕ) (xs : List X) → length xs ≤ m → length (take n xs) ≤ m
 few n m xs h = simp length-take (omega arith)
 
-module _ {M N : Type 0} (𝓜 : Meaning M) (𝓝 : Meaning N) (o : Rows M N) (before after : Lent) (n : Counts) (l : Laid 𝓜 𝓝 o before after n) where
+module _ {M N : Type 0} (𝓜 : Meaning M) (𝓝 : Meaning N) (o : Rows M N) (before after : Lent) (n : Sizes ℕ) (l : Laid 𝓜 𝓝 o before after n) where
   bus_names : Distinct ◌≡◌ (λ (b : BusRow). b.name) o.buses.now
   bus_names = distinct ◌≡◌ (λ (b : BusRow). b.name) o.buses.now equality l.accepted.names.buses
 

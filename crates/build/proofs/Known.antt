@@ -6,7 +6,7 @@ use Rattle.machine.specs.Meaning.{Meaning}
 use Rattle.network.specs.declared.refusal.Refusal.{Refusal}
 use Rattle.network.specs.declared.refusal.Refusal.TheVariants.{UnknownBus}
 use Rattle.build.specs.declared.tables.Rows.{Rows}
-use Rattle.build.specs.declared.tables.Room.{Room}
+use Rattle.build.specs.declared.tables.Sizes.{Sizes}
 use Rattle.build.specs.Offer.{MachineUnknown, BranchUnknown, Unknown, UnknownRow, RangesKept, Uncrossed, SizesKept, NamesKept, Refused}
 
 module _ {M N : Type 0} (𝓜 : Meaning M) (𝓝 : Meaning N) (o : Rows M N) where
@@ -75,6 +75,6 @@ module _ {M N : Type 0} (𝓜 : Meaning M) (𝓝 : Meaning N) (o : Rows M N) whe
   pub branches_known : Lowest (Unknown 𝓜 𝓝 o) None → Lowest InBranches None
   branches_known k i h = k (length o.first.now + length o.second.now + i) (inr (inr (record { row = i; counted = refl; holds = h })))
 
-  pub unknown_refused : (room : Room) (e : Refusal) → RangesKept o → Uncrossed o → SizesKept o room → NamesKept o → UnknownRow 0 (Unknown 𝓜 𝓝 o) e → Refused 𝓜 𝓝 o room e
+  pub unknown_refused : (room : Sizes ℕ) (e : Refusal) → RangesKept o → Uncrossed o → SizesKept o room → NamesKept o → UnknownRow 0 (Unknown 𝓜 𝓝 o) e → Refused 𝓜 𝓝 o room e
   unknown_refused room e ranges uncrossed sizes names u =
       subst (Refused 𝓜 𝓝 o room) (sym (u.is ∙ ap UnknownBus (zero-add u.row))) (ranges, uncrossed, sizes, names, u.lowest)

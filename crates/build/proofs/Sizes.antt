@@ -3,13 +3,13 @@ use Rattle.std.proofs.Common.{ℕ, ◌≤◌, Bool, ◌&&◌, leb, length, pos, 
 use Rattle.std.proofs.lemmas.Bool.{leb-true, le-leb}
 use Rattle.std.proofs.lemmas.Bool.Decides.{Decides-and, Decides-like}
 use Rattle.build.specs.declared.tables.Rows.{Rows}
-use Rattle.build.specs.declared.tables.Room.{Room}
+use Rattle.build.specs.declared.tables.Sizes.{Sizes}
 use Rattle.build.specs.Offer.{SizesKept}
 
 decides_leb : (a b : ℕ) → Decides (leb a b) (a ≤ b)
 decides_leb a b = (leb-true a b, le-leb a b)
 
-module _ {M N : Type 0} (o : Rows M N) (room : Room) where
+module _ {M N : Type 0} (o : Rows M N) (room : Sizes ℕ) where
   abbrev buses : ℕ
   buses = length o.buses.now
 

@@ -10,8 +10,7 @@ use Rattle.network.specs.Model.{Case}
 use Rattle.build.specs.declared.rows.BusRow.{BusRow}
 use Rattle.build.specs.declared.rows.BranchRow.{BranchRow}
 use Rattle.build.specs.declared.tables.Rows.{Rows}
-use Rattle.build.specs.declared.tables.Room.{Room}
-use Rattle.build.specs.declared.tables.Counts.{Counts}
+use Rattle.build.specs.declared.tables.Sizes.{Sizes}
 use Rattle.build.specs.Raw.{BusOf, BranchOf}
 use Rattle.build.specs.Offer.{Found, Counted, Accepted, Refused}
 
@@ -40,11 +39,11 @@ pub record Lent : Type 0 where
 abbrev pub lent : List Bus → List ℕ → List ℕ → List Branch → Lent
 lent b f s l = record { buses = b; first = f; second = s; branches = l }
 
-abbrev pub room_of : Lent → Room
+abbrev pub room_of : Lent → Sizes ℕ
 room_of l = record { buses = length l.buses; first = length l.first; second = length l.second; branches = length l.branches }
 
 -- the case that the tables then hold
-abbrev pub laid_case : {M N : Type 0} → Rows M N → Lent → Counts → Case M N
+abbrev pub laid_case : {M N : Type 0} → Rows M N → Lent → Sizes ℕ → Case M N
 laid_case o l n =
     record {
       tolerance = o.tolerance.0;
@@ -61,7 +60,7 @@ pub record TheRow (buses : List Bus) (name i : ℕ) : Type 0 where
 
 module _ {M N : Type 0} (𝓜 : Meaning M) (𝓝 : Meaning N) where
   -- what is offered is laid in the tables
-  pub record Laid (o : Rows M N) (before after : Lent) (n : Counts) : Type 0 where
+  pub record Laid (o : Rows M N) (before after : Lent) (n : Sizes ℕ) : Type 0 where
     pub accepted : Accepted 𝓜 𝓝 o (room_of before)
     pub counted : Counted o n
     pub buses : Filled BusOf o.buses.now before.buses after.buses n.buses

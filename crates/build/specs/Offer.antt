@@ -9,8 +9,7 @@ use Rattle.network.specs.declared.refusal.Refusal.TheVariants.{OutOfRange, Cross
 use Rattle.build.specs.declared.rows.BusRow.{BusRow}
 use Rattle.build.specs.declared.rows.BranchRow.{BranchRow}
 use Rattle.build.specs.declared.tables.Rows.{Rows}
-use Rattle.build.specs.declared.tables.Room.{Room}
-use Rattle.build.specs.declared.tables.Counts.{Counts}
+use Rattle.build.specs.declared.tables.Sizes.{Sizes}
 use Rattle.build.specs.Raw.{BusInRange, BranchInRange, CrossedLimits}
 
 -- ---- rows that fail a test
@@ -63,11 +62,15 @@ pub record CountedOn (n : ℕ) (P : ℕ → Type 0) (i : ℕ) : Type 0 where
   pub counted : i ≡ n + row
   pub holds : P row
 
--- the refusal gives the lowest row of which P holds, counted on from n
-pub record UnknownRow (n : ℕ) (P : ℕ → Type 0) (e : Refusal) : Type 0 where
+-- the refusal gives the lowest row of which P holds
+pub record RowRefused (refusal : ℕ → Refusal) (P : ℕ → Type 0) (e : Refusal) : Type 0 where
   pub row : ℕ
-  pub is : e ≡ UnknownBus (n + row)
+  pub is : e ≡ refusal row
   pub lowest : Lowest P (Some row)
+
+-- the same of a bus that is not offered, its row counted on from n
+abbrev pub UnknownRow : ℕ → (ℕ → Type 0) → Refusal → Type 0
+UnknownRow n = RowRefused (λ row. UnknownBus (n + row))
 
 -- ---- the tests passed
 module _ {M N : Type 0} (o : Rows M N) where
@@ -81,7 +84,7 @@ module _ {M N : Type 0} (o : Rows M N) where
   Uncrossed = Lowest (BranchCrossed o.branches.now) None
 
   -- the tolerance and the sizes keep their limits, and the lent tables have room
-  pub record SizesKept (room : Room) : Type 0 where
+  pub record SizesKept (room : Sizes ℕ) : Type 0 where
     pub tolerance : (pos 0 ≤ℤ o.tolerance.0) × (o.tolerance.0 ≤ℤ pos 100000)
     pub buses : (1 ≤ length o.buses.now) × (length o.buses.now ≤ 100)
     pub first : length o.first.now ≤ 30
@@ -103,7 +106,7 @@ module _ {M N : Type 0} (o : Rows M N) where
     pub rows : length o.first.now + length o.second.now + length o.branches.now ≤ 1000
 
   -- the counts are those of what is offered
-  pub record Counted (n : Counts) : Type 0 where
+  pub record Counted (n : Sizes ℕ) : Type 0 where
     pub buses : n.buses ≡ length o.buses.now
     pub first : n.first ≡ length o.first.now
     pub second : n.second ≡ length o.second.now
@@ -118,7 +121,7 @@ module _ {M N : Type 0} (𝓜 : Meaning M) (𝓝 : Meaning N) (o : Rows M N) whe
       ⊎ CountedOn (length o.first.now + length o.second.now) (BranchUnknown o.buses.now o.branches.now) i)
 
   -- every test is passed
-  pub record Accepted (room : Room) : Type 0 where
+  pub record Accepted (room : Sizes ℕ) : Type 0 where
     pub ranges : RangesKept o
     pub uncrossed : Uncrossed o
     pub sizes : SizesKept o room
@@ -126,7 +129,7 @@ module _ {M N : Type 0} (𝓜 : Meaning M) (𝓝 : Meaning N) (o : Rows M N) whe
     pub known : Lowest Unknown None
 
   -- ---- the refusal: every earlier test is passed, and the row is the lowest that fails this one
-  abbrev pub Refused : Room → Refusal → Type 0
+  abbrev pub Refused : Sizes ℕ → Refusal → Type 0
   Refused room (OutOfRange i) =
       Lowest (BusOutOfRange o.buses.now) (Some i)
       ⊎ (Lowest (BusOutOfRange o.buses.now) None × Lowest (BranchOutOfRange o.branches.now) (Some i))

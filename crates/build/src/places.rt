@@ -34,12 +34,9 @@ impl<'r> BusNames<'r> {
     pub(crate) fn ends_of(&self, name: &BranchName) -> Option<Ends>
         ensures { MatchOption result (EndsUnknown self.now.rows.now name.now.from name.now.to) (λ e. EndsFound self.now.rows.now name.now.from name.now.to e) }
     {
-        let Some(from) = self.row_of(name.from) else {
-            return None;
-        };
-        let Some(to) = self.row_of(name.to) else {
-            return None;
-        };
+        // By `?`: a bus that is not there is refused where its row is known, below.
+        let from = self.row_of(name.from)?;
+        let to = self.row_of(name.to)?;
         if name.from == name.to {
             return None;
         }
@@ -71,7 +68,7 @@ fn check_machines<M: Machine>(
     requires { before + length machines.now ≤ 1000 }
     ensures { MatchResult result (λ _. Lowest (MachineUnknown M.meaning buses.now.rows.now machines.now) None) (λ e. UnknownRow before (MachineUnknown M.meaning buses.now.rows.now machines.now) e) }
 {
-    // The row is part of the refusal.
+    // The row is part of the refusal. A name that is looked up and is not there is met by `let .. else`, the project's form for it.
     for (i, machine) in machines.iter().enumerate() {
         let Some(_row) = buses.place_of(machine) else {
             return Err(Refusal::UnknownBus(before + i));

@@ -1,15 +1,14 @@
 // Raw rows of buses and branches: what they must keep, and the bus or the branch that a row then is.
 ghost use Rattle.std.specs.Prelude.{◌≡◌, Decides, MatchOption};
-ghost use Rattle.network.specs.Ranges.{NameRange};
 ghost use Rattle.build.specs.Raw.{BusInRange, BranchInRange, CrossedLimits, BusOf, BranchOf};
 
 use measure::range::is_between;
 use measure::{Microradians, Watts};
 use names::branch::BranchName;
 use names::name::Named;
+use names::number::may_name;
 use network::branch::{Branch, Ends};
 use network::bus::Bus;
-use network::case::POWER_LIMIT;
 
 // A bus as it is offered: any numbers may stand in it.
 #[derive(Clone, Copy, Default)]
@@ -30,20 +29,6 @@ pub struct BranchRow {
     pub service: bool,
 }
 
-// Every susceptance is 1 to this many watts per microradian.
-const SUSCEPTANCE: i64 = 1_000_000;
-// Every phase shift lies within ± this many microradians.
-const SHIFT: i64 = 1_600_000;
-// Every limit of an angle difference lies within ± this many microradians.
-const DIFFERENCE: i64 = 6_400_000;
-
-// Whether the number may name a bus or a circuit. The byte of a word is tested alike in `word`, by a definition that speaks of words.
-fn is_name(number: u32) -> bool
-    ensures { Decides result (NameRange number) }
-{
-    (1..=255).contains(&number)
-}
-
 // A row of which it is known which numbers may stand in it: a trait, so that one search serves both kinds of row.
 pub trait Ranged {
     // every number is in its range
@@ -58,7 +43,7 @@ impl Ranged for BusRow {
     ghost ranged = { BusInRange };
 
     fn is_in_range(&self) -> bool {
-        is_name(self.name) & is_between(-POWER_LIMIT, POWER_LIMIT, self.demand.0)
+        may_name(self.name) & is_between(-Watts::LIMIT, Watts::LIMIT, self.demand.0)
     }
 }
 
@@ -66,14 +51,15 @@ impl Ranged for BranchRow {
     ghost ranged = { BranchInRange };
 
     fn is_in_range(&self) -> bool {
-        is_name(self.name.circuit)
-            & is_name(self.name.from)
-            & is_name(self.name.to)
-            & is_between(1, SUSCEPTANCE, self.susceptance)
-            & is_between(-SHIFT, SHIFT, self.shift.0)
-            & is_between(0, POWER_LIMIT, self.rating.0)
-            & is_between(-DIFFERENCE, DIFFERENCE, self.angmin.0)
-            & is_between(-DIFFERENCE, DIFFERENCE, self.angmax.0)
+        let (shift, difference) = (Branch::SHIFT_LIMIT, Branch::DIFFERENCE_LIMIT);
+        may_name(self.name.circuit)
+            & may_name(self.name.from)
+            & may_name(self.name.to)
+            & is_between(1, Branch::MOST_SUSCEPTANCE, self.susceptance)
+            & is_between(-shift, shift, self.shift.0)
+            & is_between(0, Watts::LIMIT, self.rating.0)
+            & is_between(-difference, difference, self.angmin.0)
+            & is_between(-difference, difference, self.angmax.0)
     }
 }
 

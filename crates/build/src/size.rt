@@ -1,22 +1,16 @@
 // The sizes of a case.
-ghost use Rattle.std.specs.Option.{MatchOption};
+ghost use Rattle.std.specs.Prelude.{◌≡◌, MatchResult};
+ghost use Rattle.network.specs.declared.refusal.Refusal.TheVariants.{Size};
 ghost use Rattle.build.specs.Offer.{SizesKept, Counted};
 
 use crate::tables::{Counts, Room, Rows};
 use measure::range::is_between;
+use network::refusal::Refusal;
+use network::size::{BRANCHES, BUSES, MACHINES, TOLERANCE};
 
-// The largest tolerance of the balance, in watts.
-const TOLERANCE: i64 = 100_000;
-// The most buses.
-const BUSES: usize = 100;
-// The most machines in one group.
-const MACHINES: usize = 30;
-// The most branches.
-const BRANCHES: usize = 200;
-
-// How many rows of each table the case has, or none where a size or the tolerance is outside its limits, or a lent table is too short.
-pub(crate) fn counts<M, N>(rows: &Rows<M, N>, room: &Room) -> Option<Counts>
-    ensures { MatchOption result (SizesKept rows.now room.now → ⊥) (λ n. SizesKept rows.now room.now × Counted rows.now n) }
+// How many rows of each table the case has; refused where a size or the tolerance is outside its limits, or a lent table is too short.
+pub(crate) fn counts<M, N>(rows: &Rows<M, N>, room: &Room) -> Result<Counts, Refusal>
+    ensures { MatchResult result (λ n. SizesKept rows.now room.now × Counted rows.now n) (λ e. (e ≡ Size) × (SizesKept rows.now room.now → ⊥)) }
 {
     let (buses, first, second, branches) = (
         rows.buses.len(),
@@ -35,13 +29,13 @@ pub(crate) fn counts<M, N>(rows: &Rows<M, N>, room: &Room) -> Option<Counts>
         & (branches <= room.branches);
     // Each number is within 8 bits by the test: `try_from` would give up at a place that is never reached.
     if small & fits {
-        Some(Counts {
+        Ok(Counts {
             buses: buses as u8,
             first: first as u8,
             second: second as u8,
             branches: branches as u8,
         })
     } else {
-        None
+        Err(Refusal::Size)
     }
 }

@@ -12,20 +12,17 @@ pub struct Rows<'r, M, N> {
     pub branches: &'r [BranchRow],
 }
 
-// How many rows each table to be filled has room for: any number, where a count has 8 bits.
-#[derive(Clone, Copy)]
-pub struct Room {
-    pub buses: usize,
-    pub first: usize,
-    pub second: usize,
-    pub branches: usize,
+// A number for each table of a case.
+#[derive(Clone, Copy, PartialEq, Eq, Debug)]
+pub struct Sizes<T> {
+    pub buses: T,
+    pub first: T,
+    pub second: T,
+    pub branches: T,
 }
 
-// How many rows of each table the case has.
-#[derive(Clone, Copy, PartialEq, Eq, Debug)]
-pub struct Counts {
-    pub buses: u8,
-    pub first: u8,
-    pub second: u8,
-    pub branches: u8,
-}
+// How many rows each table to be filled has room for: any number.
+pub type Room = Sizes<usize>;
+
+// How many rows of each table the case has: so few that 8 bits hold each number.
+pub type Counts = Sizes<u8>;

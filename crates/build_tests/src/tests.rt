@@ -48,12 +48,10 @@ fn laid<'x>(
     second: u32,
     branches: &'x [BranchRow],
 ) -> Result<Result<Counts, Refusal>, Fail> {
-    let Some(empty) = bus(1).bus() else {
-        return Err(Fail::new("no bus"));
-    };
-    let Some(line) = branch(1, 1, 2).branch(Ends { from: 0, to: 1 }) else {
-        return Err(Fail::new("no branch"));
-    };
+    let empty = bus(1).bus().ok_or_else(|| Fail::new("no bus"))?;
+    let line = branch(1, 1, 2)
+        .branch(Ends { from: 0, to: 1 })
+        .ok_or_else(|| Fail::new("no branch"))?;
     let rows = Rows {
         tolerance: Watts(5),
         buses,
@@ -87,8 +85,10 @@ fn a_case_is_laid(rt: HostRuntime) -> Result<(), Fail> {
 
 #[test]
 fn numbers_are_tested_first(rt: HostRuntime) -> Result<(), Fail> {
-    let mut crossed = branch(1, 9, 9);
-    crossed.angmin = Microradians(6);
+    let crossed = BranchRow {
+        angmin: Microradians(6),
+        ..branch(1, 9, 9)
+    };
     assert_eq!(rt;
         laid(&[bus(7), bus(0)], 9, 9, &[crossed])?,
         Err(Refusal::OutOfRange(1))

@@ -4,11 +4,11 @@ use Rattle.build.proofs.check.check.Goals as goal
 
 pub returns-in_err-check_buses : goal.returns-in_err-check_buses
 returns-in_err-check_buses g c =
-    let p = err_from_is_err_and c.from_residual.result c.from_residual.ensures.1 in
+    let p = err_from_is_err_and c.from_residual-in_err-check_buses.result c.from_residual-in_err-check_buses.ensures.1 in
     rw (p.1, p.2)
     (unknown_refused g.M.Machine.meaning g.N.Machine.meaning c.args.rows.now c.args.room.now _
-    (record { buses = c.in_default.ensures; branches = c.in_default-first_out_of_range.ensures })
-    c.in_default-first_crossed.ensures
-    c.in-Some-counts.ensures.0
-    (record { buses = c.in_default-first_repeated.ensures; branches = c.in_default-first_repeated-2.ensures })
+    (record { buses = c.in_ok-check_ranges.ensures; branches = c.in_ok-check_ranges-2.ensures })
+    c.in_ok-check_limits.ensures
+    c.in_ok-counts.ensures.0
+    (record { buses = c.in_ok-check_names.ensures; branches = c.in_ok-check_names-2.ensures })
     c.in_err-check_buses.ensures)

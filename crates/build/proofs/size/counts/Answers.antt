@@ -15,4 +15,4 @@ returns-else-small-fits g c =
     let o = c.args.rows.now in
     let d : Decides c.is_between.result ((pos 0 ≤ℤ o.tolerance.0) × (o.tolerance.0 ≤ℤ pos 100000)) = search rules in
     let b : Decides c.contains.result ((1 ≤ length o.buses.now) × (length o.buses.now ≤ 100)) = search rules in
-    not_from_Decides _ (sizes_decided o c.args.room.now c.is_between.result c.contains.result d b) c.if-small-fits.false
+    (refl, not_from_Decides _ (sizes_decided o c.args.room.now c.is_between.result c.contains.result d b) c.if-small-fits.false)

@@ -3,10 +3,10 @@ ghost use Rattle.std.specs.Prelude.{◌≡◌, ◌-ℤ◌, ◌*ℤ◌};
 ghost use Rattle.network.specs.Ranges.{Carried};
 ghost use Rattle.judging.specs.Whole.{angle_of, difference_of, flow_of};
 
+use measure::Microradians;
 use measure::column::Column;
 use measure::range::{keep, only_if};
 use network::branch::Branch;
-use network::case::ANGLE_LIMIT;
 
 // The angles that a dispatch gives, at so many buses.
 #[derive_where(Clone, Copy)]
@@ -32,8 +32,8 @@ impl<'a, C: Column> Angles<'a, C> {
             return 0;
         }
         let angle = keep(
-            -ANGLE_LIMIT,
-            ANGLE_LIMIT,
+            -Microradians::LIMIT,
+            Microradians::LIMIT,
             self.given.at(usize::from(row) - 1),
         );
         only_if(row < self.buses, angle)

@@ -8,11 +8,12 @@ ghost use Rattle.network.specs.View.{group_of, case_of};
 
 use crate::angles::Angles;
 use crate::flows::Flows;
+use measure::Watts;
 use measure::column::Column;
 use measure::range::{is_beyond, keep, only_if};
 use measure::rows::{first_broken, sum};
 use network::bus::Bus;
-use network::case::{Case, Machines, POWER_LIMIT};
+use network::case::{Case, Machines};
 
 // A group of machines, and the power of each.
 #[derive_where(Clone, Copy)]
@@ -29,7 +30,7 @@ impl<'a, 'd, M, C: Column> Injections<'a, 'd, M, C> {
         if row >= self.machines.rows.len() {
             return 0;
         }
-        let power = keep(-POWER_LIMIT, POWER_LIMIT, self.powers.at(row));
+        let power = keep(-Watts::LIMIT, Watts::LIMIT, self.powers.at(row));
         only_if(usize::from(self.machines.place(row)) == bus, power)
     }
 
@@ -74,13 +75,14 @@ impl<'a, 'd, M, N, C: Column> Balance<'a, 'd, M, N, C> {
         };
         let flows = Flows {
             branches: self.case.branches,
+            count: self.case.nl,
             angles: self.angles,
         };
         net(
             first.total(row),
             second.total(row),
             bus.demand.0,
-            flows.outflow(row, self.case.nl),
+            flows.outflow(row),
         )
     }
 

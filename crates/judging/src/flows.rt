@@ -6,26 +6,23 @@ ghost use Rattle.judging.specs.Whole.{angle_of, outflow_of, outflow_row};
 
 use crate::angles::Angles;
 use measure::column::Column;
-use measure::range::only_if;
 use measure::rows::sum;
 use network::branch::Branch;
 
-// The branches of a case, and the angles at its buses.
+// The branches of a case, the first so many rows of their table, and the angles at its buses.
 #[derive_where(Clone, Copy)]
 pub(crate) struct Flows<'a, 'd, C> {
     pub(crate) branches: &'a [Branch],
+    pub(crate) count: u8,
     pub(crate) angles: Angles<'d, C>,
 }
 
 impl<'a, 'd, C: Column> Flows<'a, 'd, C> {
-    // What leaves the bus by that branch, less what arrives. (Pulls of prices leave and arrive alike in `pricing`, in its own terms.)
+    // What leaves the bus by that branch, less what arrives.
     fn outflow_by(&self, branch: &Branch, bus: usize) -> i64
         ensures { result ≡ outflow_of (angle_of self.now.angles.buses (C.value self.now.angles.given.now)) bus branch.now }
     {
-        let flow = self.angles.flow(branch);
-        let leaving = only_if(usize::from(branch.ends.from) == bus, flow);
-        let arriving = only_if(usize::from(branch.ends.to) == bus, flow);
-        leaving - arriving
+        branch.ends.leaving(bus, self.angles.flow(branch))
     }
 
     // What leaves the bus by the branch in that row, less what arrives; 0 past the last row.
@@ -38,11 +35,11 @@ impl<'a, 'd, C: Column> Flows<'a, 'd, C> {
         self.outflow_by(branch, bus)
     }
 
-    // What leaves the bus by the first so many branches, less what arrives.
-    pub(crate) fn outflow(&self, bus: usize, count: u8) -> i64
+    // What leaves the bus by all branches, less what arrives.
+    pub(crate) fn outflow(&self, bus: usize) -> i64
         ensures small { Within 4080000000000000 result }
-        ensures exact { result ≡ total (outflow_row (angle_of self.now.angles.buses (C.value self.now.angles.given.now)) bus) (rows (take count self.now.branches.now)) }
+        ensures exact { result ≡ total (outflow_row (angle_of self.now.angles.buses (C.value self.now.angles.given.now)) bus) (rows (take self.now.count self.now.branches.now)) }
     {
-        sum(count, |row| self.outflow_in(row, bus))
+        sum(self.count, |row| self.outflow_in(row, bus))
     }
 }

@@ -8,7 +8,6 @@ ghost use Rattle.network.specs.View.{case_of, dispatch_of};
 use crate::angles::Angles;
 use crate::balance::Balance;
 use crate::flows::Flows;
-use crate::limits::angle_beyond;
 use machine::group::total_cost;
 use machine::machine::Machine;
 use measure::Grains;
@@ -41,15 +40,14 @@ pub fn judge<M: Machine, N: Machine, C: Column>(
 ) -> Result<Grains, Refusal>
     ensures { Judged M.meaning N.meaning (case_of case.now) (dispatch_of C.value dispatch.now) result }
 {
-    let buses = rows_used(case.buses, case.nb);
-    if let Some(row) = angle_beyond(&dispatch.angles, buses) {
+    let angles = Angles {
+        given: &dispatch.angles,
+        buses: rows_used(case.buses, case.nb),
+    };
+    if let Some(row) = angles.out_of_range() {
         return Err(Refusal::OutOfRange(row));
     }
     let cost = cost(case, dispatch)?;
-    let angles = Angles {
-        given: &dispatch.angles,
-        buses,
-    };
     let balance = Balance {
         case: *case,
         first: &dispatch.first,
@@ -61,12 +59,13 @@ pub fn judge<M: Machine, N: Machine, C: Column>(
     }
     let flows = Flows {
         branches: case.branches,
+        count: case.nl,
         angles,
     };
-    if let Some(row) = flows.overloaded(case.nl) {
+    if let Some(row) = flows.overloaded() {
         return Err(Refusal::Overloaded(row));
     }
-    if let Some(row) = flows.overstretched(case.nl) {
+    if let Some(row) = flows.overstretched() {
         return Err(Refusal::Overstretched(row));
     }
     Ok(cost)

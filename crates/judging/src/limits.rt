@@ -3,24 +3,29 @@ ghost use Rattle.std.specs.Prelude.{◌≡◌, ◌<◌, true};
 ghost use Rattle.measure.specs.Rows.{row_test, Lowest};
 ghost use Rattle.judging.specs.Whole.{angle_of, angle_beyond, overloaded, overstretched, overloaded_row, overstretched_row};
 
+use crate::angles::Angles;
 use crate::flows::Flows;
+use measure::Microradians;
 use measure::column::Column;
-use measure::range::{is_between, is_beyond};
+use measure::range::is_between;
 use measure::rows::first_broken;
 use network::branch::Branch;
 
-// Whether the angle given for the bus in that row is out of range; none is given for the reference.
-fn is_angle_beyond<C: Column>(angles: &C, row: usize) -> bool
-    ensures { result ≡ angle_beyond (C.value angles.now) row }
-{
-    row > 0 && is_beyond(3_200_000, angles.at(row - 1))
-}
+impl<'a, C: Column> Angles<'a, C> {
+    // Whether the angle given for the bus in that row is out of range; none is given for the reference.
+    fn is_out_of_range(&self, row: usize) -> bool
+        ensures { result ≡ angle_beyond (C.value self.now.given.now) row }
+    {
+        let limit = Microradians::LIMIT;
+        row > 0 && !is_between(-limit, limit, self.given.at(row - 1))
+    }
 
-// The lowest bus row, of the first so many, whose angle is out of range, or none.
-pub(crate) fn angle_beyond<C: Column>(angles: &C, buses: u8) -> Option<usize>
-    ensures { Lowest (λ i. (i < buses) × (angle_beyond (C.value angles.now) i ≡ true)) result }
-{
-    first_broken(buses, |row| is_angle_beyond(angles, row))
+    // The lowest bus row whose angle is out of range, or none.
+    pub(crate) fn out_of_range(&self) -> Option<usize>
+        ensures { Lowest (λ i. (i < self.now.buses) × (angle_beyond (C.value self.now.given.now) i ≡ true)) result }
+    {
+        first_broken(self.buses, |row| self.is_out_of_range(row))
+    }
 }
 
 impl<'a, 'd, C: Column> Flows<'a, 'd, C> {
@@ -42,15 +47,15 @@ impl<'a, 'd, C: Column> Flows<'a, 'd, C> {
         self.exceeds_rating(branch)
     }
 
-    // The lowest of the first so many branch rows that does, or none.
-    pub(crate) fn overloaded(&self, count: u8) -> Option<usize>
-        ensures { Lowest (λ i. (i < count) × (row_test (overloaded_row (angle_of self.now.angles.buses (C.value self.now.angles.given.now))) self.now.branches.now i ≡ true)) result }
+    // The lowest branch row that does, or none.
+    pub(crate) fn overloaded(&self) -> Option<usize>
+        ensures { Lowest (λ i. (i < self.now.count) × (row_test (overloaded_row (angle_of self.now.angles.buses (C.value self.now.angles.given.now))) self.now.branches.now i ≡ true)) result }
     {
-        first_broken(count, |row| self.is_overloaded(row))
+        first_broken(self.count, |row| self.is_overloaded(row))
     }
 
-    // Whether the branch is in service and its angle difference breaks its limits. Three small functions again, not the three above with a closure:
-    // each clause would have to speak of the closure in place of the limit.
+    // Whether the branch is in service and its angle difference breaks its limits. Not the three functions above with this test passed in: their
+    // clauses would speak of a closure in place of the limit.
     fn breaks_limits(&self, branch: &Branch) -> bool
         ensures { result ≡ overstretched (angle_of self.now.angles.buses (C.value self.now.angles.given.now)) branch.now }
     {
@@ -68,10 +73,10 @@ impl<'a, 'd, C: Column> Flows<'a, 'd, C> {
         self.breaks_limits(branch)
     }
 
-    // The lowest of the first so many branch rows that does, or none.
-    pub(crate) fn overstretched(&self, count: u8) -> Option<usize>
-        ensures { Lowest (λ i. (i < count) × (row_test (overstretched_row (angle_of self.now.angles.buses (C.value self.now.angles.given.now))) self.now.branches.now i ≡ true)) result }
+    // The lowest branch row that does, or none.
+    pub(crate) fn overstretched(&self) -> Option<usize>
+        ensures { Lowest (λ i. (i < self.now.count) × (row_test (overstretched_row (angle_of self.now.angles.buses (C.value self.now.angles.given.now))) self.now.branches.now i ≡ true)) result }
     {
-        first_broken(count, |row| self.is_overstretched(row))
+        first_broken(self.count, |row| self.is_overstretched(row))
     }
 }

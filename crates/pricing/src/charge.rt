@@ -8,16 +8,16 @@ ghost use Rattle.network.specs.View.{case_of};
 ghost use Rattle.pricing.specs.Kept.{prices_of, kept_prices, kept_charge, bus_worth, price_size};
 
 use crate::residue::PricedCase;
+use measure::Microradians;
 use measure::column::Column;
 use measure::range::{keep, only_if};
 use measure::rows::sum;
-use network::case::ANGLE_LIMIT;
 
 // Every weight of a branch in service lies within ± this.
-pub const WEIGHT_LIMIT: i64 = 10_000_000_000;
+pub(crate) const WEIGHT_LIMIT: i64 = 10_000_000_000;
 
 // Every residue lies within ± this.
-pub const RESIDUE_LIMIT: i64 = 1_000_000_000;
+pub(crate) const RESIDUE_LIMIT: i64 = 1_000_000_000;
 
 // |z|.
 fn size(z: i64) -> i64
@@ -52,7 +52,7 @@ fn worth(price: i64, demand: i64, residue: i64) -> i64
     requires { Worth price demand residue }
     ensures { result ≡ price *ℤ demand -ℤ pos 3200000 *ℤ ∣ residue ∣ }
 {
-    price * demand - ANGLE_LIMIT * size(residue)
+    price * demand - Microradians::LIMIT * size(residue)
 }
 
 impl<'a, 'q, M, N, C: Column> PricedCase<'a, 'q, M, N, C> {

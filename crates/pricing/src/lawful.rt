@@ -8,7 +8,8 @@ ghost use Rattle.pricing.specs.Kept.{prices_of, kept_prices, bus_price_beyond, b
 ghost use Rattle.network.specs.Floored.{BusPricesKept, BranchPricesKept, BusPriceBeyond, BranchPriceBeyond, OutOfRangeAt, UnratedRow, WeightBeyond, ResidueBeyond, Checked};
 
 use crate::charge::{RESIDUE_LIMIT, WEIGHT_LIMIT};
-use crate::residue::{ANGLE_PRICE_LIMIT, PricedCase};
+use crate::residue::PricedCase;
+use measure::AnglePrice;
 use measure::column::Column;
 use measure::price::Price;
 use measure::range::is_between;
@@ -17,7 +18,8 @@ use network::case::rows_used;
 use network::refusal::Refusal;
 
 impl<'a, 'q, M, N, C: Column> PricedCase<'a, 'q, M, N, C> {
-    // Whether the price of the bus in that row is outside its range.
+    // Whether the price of the bus in that row is outside its range. By `is_between`, as each test here: a weight's limit needs more than the 32
+    // bits of `is_beyond`.
     fn is_bus_price_beyond(&self, row: usize) -> bool
         ensures { result ≡ bus_price_beyond (prices_of C.value self.now.prices.now) row }
     {
@@ -31,7 +33,7 @@ impl<'a, 'q, M, N, C: Column> PricedCase<'a, 'q, M, N, C> {
         let congestion = self.prices.congestion.at(row);
         let angle = self.prices.angle.at(row);
         !is_between(-Price::LIMIT, Price::LIMIT, congestion)
-            | !is_between(-ANGLE_PRICE_LIMIT, ANGLE_PRICE_LIMIT, angle)
+            | !is_between(-AnglePrice::LIMIT, AnglePrice::LIMIT, angle)
     }
 
     // Whether the branch in that row is in service without a rating and has a congestion price.

@@ -6,6 +6,7 @@ ghost use Rattle.network.specs.Floor.{price, weight, pull, residue};
 ghost use Rattle.network.specs.View.{case_of};
 ghost use Rattle.pricing.specs.Kept.{prices_of, kept_price, kept_angle_price, kept_prices, share};
 
+use measure::AnglePrice;
 use measure::column::Column;
 use measure::price::Price;
 use measure::range::{keep, only_if};
@@ -13,9 +14,6 @@ use measure::rows::sum;
 use network::branch::Branch;
 use network::case::{Case, rows_used};
 use network::prices::Prices;
-
-// Every angle price lies within ± this many grains per hour and microradian.
-pub const ANGLE_PRICE_LIMIT: i64 = 100_000_000;
 
 // A case and a price list. Prices outside their ranges count as 0.
 #[derive_where(Clone, Copy)]
@@ -38,7 +36,7 @@ impl<'a, 'q, M, N, C: Column> PricedCase<'a, 'q, M, N, C> {
     pub(crate) fn price_at(&self, row: usize) -> i64
         ensures { result ≡ price (case_of self.now.case) (kept_prices (prices_of C.value self.now.prices.now)) row }
     {
-        let price = keep(-Price::LIMIT, Price::LIMIT, self.prices.bus.at(row));
+        let price = Price::kept(self.prices.bus.at(row)).get();
         let buses = rows_used(self.case.buses, self.case.nb);
         only_if(row < usize::from(buses), price)
     }
@@ -47,16 +45,16 @@ impl<'a, 'q, M, N, C: Column> PricedCase<'a, 'q, M, N, C> {
     pub(crate) fn congestion_at(&self, row: usize) -> i64
         ensures { result ≡ kept_price (C.value self.now.prices.now.congestion row) }
     {
-        keep(-Price::LIMIT, Price::LIMIT, self.prices.congestion.at(row))
+        Price::kept(self.prices.congestion.at(row)).get()
     }
 
-    // The angle price of the branch in that row. Not one with the congestion price: the range and the column are all that either is.
+    // The angle price of the branch in that row.
     pub(crate) fn angle_price_at(&self, row: usize) -> i64
         ensures { result ≡ kept_angle_price (C.value self.now.prices.now.angle row) }
     {
         keep(
-            -ANGLE_PRICE_LIMIT,
-            ANGLE_PRICE_LIMIT,
+            -AnglePrice::LIMIT,
+            AnglePrice::LIMIT,
             self.prices.angle.at(row),
         )
     }
@@ -92,10 +90,7 @@ impl<'a, 'q, M, N, C: Column> PricedCase<'a, 'q, M, N, C> {
         let Some(branch) = self.case.branches.get(row) else {
             return 0;
         };
-        let pull = self.pull(row, branch);
-        let leaving = only_if(usize::from(branch.ends.from) == bus, pull);
-        let arriving = only_if(usize::from(branch.ends.to) == bus, pull);
-        leaving - arriving
+        branch.ends.leaving(bus, self.pull(row, branch))
     }
 
     // The residue of the bus in that row.

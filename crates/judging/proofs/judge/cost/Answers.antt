@@ -1,8 +1,8 @@
 use Rattle.std.proofs.Common.{◌≡◌, ℕ, ◌≤◌, List, length, ℤ, ◌+ℤ◌, sym, ap, ◌∙◌, subst, ap₂, arith, w64, to_z, of_z}
 use borrow.Author.Differences.{ints}
-use Rattle.std.proofs.Common.{Result, Ok, Err}
-use Rattle.std.specs.Result.{MatchResult, IsErrAnd}
+use Rattle.std.proofs.lemmas.Result.{MatchResult-at_ok}
 use Rattle.measure.specs.Range.{Within}
+use Rattle.measure.proofs.Results.{value_told}
 use Rattle.measure.proofs.Sums.{holds_below}
 use Rattle.machine.specs.Meaning.{Meaning, Keeps}
 use Rattle.machine.specs.Group.{Counted, AllowedAll, counted_cost}
@@ -21,21 +21,16 @@ overflow_add-result g c =
 within : {K : Type 0} (𝓚 : Meaning K) → Keeps 𝓚 → (ms : List K) (p : ℕ → ℤ) (t : ℤ) → length ms ≤ 255 → Counted 𝓚 ms p t → Within 255000000000000000 t
 within 𝓚 keeps ms p t few h = subst (Within 255000000000000000) (sym h.counted) (counted_cost_within 𝓚 keeps ms 255 few p h.allowed)
 
--- what holds of a result's value holds of the value of a result with the same value
-taken : {T E F : Type 0} (r : Result T E) (s : Result T F) (x : T) (P : T → Type 0) (Q : E → Type 0) (R : E → F → Type 0) → s ≡ Ok x → MatchResult r (λ y. s ≡ Ok y) (λ e. IsErrAnd s (R e)) → MatchResult r P Q → P x
-taken (Ok y) s x P Q R e k h = subst P (cc) h
-taken (Err y) s x P Q R e k h = absurd (subst (λ v. IsErrAnd v (R y)) e k)
-
 pub overflow_add-result-in-Ok : goal.overflow_add-result-in-Ok
 overflow_add-result-in-Ok g c =
-    let a = within g.M.Machine.meaning g.met.M.Machine.lawful _ _ _ c.used-first.ensures.few (taken c.total_cost.result c.map_err.result c.in_ok-one.one _ _ _ c.in_ok-one.was c.map_err.ensures.cases c.total_cost.ensures) in
+    let a = within g.M.Machine.meaning g.met.M.Machine.lawful _ _ _ c.used-first.ensures.few (MatchResult-at_ok _ _ c.in_ok-one.one (value_told c.total_cost.result c.map_err.result _ c.in_ok-one.one c.in_ok-one.was c.map_err.ensures.cases) c.total_cost.ensures) in
     let b = within g.N.Machine.meaning g.met.N.Machine.lawful _ _ _ c.used-second.ensures.few c.in-Ok.ensures in
     omega (arith, ints, a.0, a.1, b.0, b.1)
 
 pub returns-in-Ok : goal.returns-in-Ok
 unfolding counted
 returns-in-Ok g c =
-    let first = taken c.total_cost.result c.map_err.result c.in_ok-one.one (λ t. Counted g.M.Machine.meaning c.used-first.result.now (g.C.Column.value c.args.dispatch.now.first) t.0) _ _ c.in_ok-one.was c.map_err.ensures.cases c.total_cost.ensures in
+    let first = MatchResult-at_ok _ _ c.in_ok-one.one (value_told c.total_cost.result c.map_err.result _ c.in_ok-one.one c.in_ok-one.was c.map_err.ensures.cases) c.total_cost.ensures in
     let second = c.in-Ok.ensures in
     let a = within g.M.Machine.meaning g.met.M.Machine.lawful _ _ _ c.used-first.ensures.few first in
     let b = within g.N.Machine.meaning g.met.N.Machine.lawful _ _ _ c.used-second.ensures.few second in

@@ -1,4 +1,4 @@
-use Rattle.std.proofs.Common.{arith, lit≤, rules}
+use Rattle.std.proofs.Common.{◌≤◌, arith, lit≤, w8, Fits, rules}
 use Rattle.measure.proofs.Sums.{row_small, summed_rows}
 use Rattle.judging.specs.Whole.{angle_of, outflow_row}
 use Rattle.judging.proofs.Whole.{outflow_within}
@@ -15,6 +15,7 @@ pub returns : goal.returns
 returns g c =
     let s = c.args.self.now in
     let θ = g.C.Column.value s.angles.given.now in
-    let n = c.ranges.count in
-    let k = summed_rows 16000000000000 (outflow_row (angle_of s.angles.buses θ) c.args.bus) s.branches.now _ c.args.count c.sum.result c.sum.type_inv (omega arith) (λ r. outflow_within s.angles.buses θ r.item c.args.bus) c.sum.ensures (λ i z l k. search rules) in
+    let h : Fits w8 c.args.self.now.count = search rules in
+    let n : c.args.self.now.count ≤ 255 = omega arith in
+    let k = summed_rows 16000000000000 (outflow_row (angle_of s.angles.buses θ) c.args.bus) s.branches.now _ s.count c.sum.result c.sum.type_inv n (λ r. outflow_within s.angles.buses θ r.item c.args.bus) c.sum.ensures (λ i z l k. search rules) in
     record { small = k.0; exact = k.1 }

@@ -86,8 +86,9 @@ impl State {
         *self = match (*self, kind_of(word)) {
             (State::Head, _) => State::Counts(0),
             (State::Counts(read), _) => {
-                if read + 1 < 5 {
-                    State::Counts(read + 1)
+                let read = read + 1;
+                if head_slot(read).is_some() {
+                    State::Counts(read)
                 } else {
                     State::Next(Place::Buses)
                 }

@@ -1,5 +1,5 @@
 // The sorts of record in a case, and what is due in each and in the head.
-ghost use Rattle.std.specs.Prelude.{◌≡◌, Decides};
+ghost use Rattle.std.specs.Prelude.{◌≡◌, ◌≤◌, length, Decides};
 ghost use Rattle.word.specs.Run.{Due};
 ghost use Rattle.case_paper.specs.Case.{amounts_of, head_amounts, FirstWord, sort_of, rank};
 ghost use Rattle.case_paper.specs.State.{after_sort};
@@ -85,6 +85,19 @@ impl Sort {
             Sort::Stepped(_) => Place::Stepped,
             Sort::Curved => Place::Curved,
             Sort::Branch => Place::Branches,
+        }
+    }
+
+    // How many amounts a record of this sort has.
+    pub fn amount_count(self) -> usize
+        requires { length (amounts_of self) ≤ 18 }
+        ensures { result ≡ length (amounts_of self) }
+    {
+        match self {
+            Sort::Bus => 1,
+            Sort::Stepped(n) => 3 + n + n.saturating_sub(1),
+            Sort::Curved => CURVED.len(),
+            Sort::Branch => BRANCH.len(),
         }
     }
 

@@ -10,25 +10,16 @@ ghost use Rattle.case_paper.specs.State.{Closes};
 use crate::count::{counts_met, has_row};
 use crate::fault::*;
 use crate::order::in_order;
-use crate::sort::Sort;
-use crate::state::State;
+use crate::state::{Open, State};
 use word::fault::{WordFault, WordRefusal};
 use word::kind::{Kind, kind_of};
 
-// A record that a word completes: its sort, its first word, and the amounts before that word. Words and counts are passed beside it, not in it:
-// the words stand, and the counts rise.
-#[derive(Clone, Copy)]
-pub struct Closed {
-    pub sort: Sort,
-    pub first: u32,
-    pub read: usize,
-}
-
-fn closed_by(was: State, is: State) -> Option<Closed>
+// The record that a word completes, with the amounts read before that word.
+fn closed_by(was: State, is: State) -> Option<Open>
     ensures { Closes was is result }
 {
     match (was, is) {
-        (State::Amounts(sort, first, read), State::Next(_)) => Some(Closed { sort, first, read }),
+        (State::Amounts(open), State::Next(_)) => Some(open),
         _ => None,
     }
 }
@@ -53,7 +44,7 @@ fn end_in_time(
 
 // The record whose last amount stands at `place` is in order, and takes a row of its sort; or it is refused and takes none.
 fn complete(
-    closed: Closed,
+    closed: Open,
     place: usize,
     words: &[u32],
     rows: &[usize; 4],
@@ -62,7 +53,7 @@ fn complete(
     requires { (place < length words.now) × ((closed.read + 1 ≤ place) × (length (amounts_of closed.sort) ≡ closed.read + 1)) }
     ensures { MatchResult result (λ _. InOrder closed.sort (amounts_read words.now place closed.read) × Rowed rows.now counts.old words.now closed.sort × (counts.new ≡ slice_set counts.old (rank closed.sort) (slice_index counts.old (rank closed.sort) + 1))) (λ f. Unsound closed.sort (amounts_read words.now place closed.read) (Rowed rows.now counts.old words.now closed.sort) ((place - closed.read) - 1) closed.first f × (counts.new ≡ counts.old)) }
 {
-    let Closed { sort, first, read } = closed;
+    let Open { sort, first, read } = closed;
     let start = place - read - 1;
     if !in_order(sort, &words[place - read..=place]) {
         return Err(RecordFault::Order {

@@ -30,8 +30,8 @@ complete-requires c =
     let v = c.in-Some.closed in (
       omega arith,
       (
-        closed_room c.args.rows.now c.args.words.now c.loop-place.place c.loop-place.state c.step.new.self c.loop-place.counts c.loop-place.invariant (omega arith) t.0 t.1 v.sort v.first v.read d.0 d.1.0 d.1.1,
-        closed_long c.args.rows.now c.args.words.now c.loop-place.place c.loop-place.state c.step.new.self c.loop-place.counts c.loop-place.invariant (omega arith) t.0 t.1 v.sort v.first v.read d.0 d.1.0 d.1.1,
+        closed_room c.args.rows.now c.args.words.now c.loop-place.place c.loop-place.state c.step.new.self c.loop-place.counts c.loop-place.invariant (omega arith) t.0 t.1 v d.0 d.1.0 d.1.1,
+        closed_long c.args.rows.now c.args.words.now c.loop-place.place c.loop-place.state c.step.new.self c.loop-place.counts c.loop-place.invariant (omega arith) t.0 t.1 v d.0 d.1.0 d.1.1,
       ),
     )
 
@@ -43,7 +43,7 @@ returns-in_err-complete c =
     let p = err_from_is_err_and c.from_residual-in_err-complete.result c.from_residual-in_err-complete.ensures.1 in
     let f = c.in_err-complete.ensures in
     rw (p.1, p.2)
-    (refused_closed c.args.rows.now c.args.words.now c.loop-place.place c.loop-place.state c.step.new.self c.loop-place.counts c.loop-place.invariant (omega arith) t.0 t.1 v.sort v.first v.read d.0 d.1.0 d.1.1
+    (refused_closed c.args.rows.now c.args.words.now c.loop-place.place c.loop-place.state c.step.new.self c.loop-place.counts c.loop-place.invariant (omega arith) t.0 t.1 v d.0 d.1.0 d.1.1
     c.in_err-complete.field-0.0 f.0)
 
 pub loop-place-preserved : goal.loop-place-preserved
@@ -55,7 +55,7 @@ loop-place-preserved c =
           let v = w.in-Some.closed in
           let k = w.in_ok-complete.ensures in
           subst (λ (l : List ℕ). Progress c.args.rows.now c.args.words.now (c.loop-place.place + 1) c.step.new.self l) (sym w.counts-is)
-          (progress_closed c.args.rows.now c.args.words.now c.loop-place.place c.loop-place.state c.step.new.self c.loop-place.counts c.loop-place.invariant (omega arith) t.0 t.1 v.sort v.first v.read d.0 d.1.0 d.1.1
+          (progress_closed c.args.rows.now c.args.words.now c.loop-place.place c.loop-place.state c.step.new.self c.loop-place.counts c.loop-place.invariant (omega arith) t.0 t.1 v d.0 d.1.0 d.1.1
           w.complete.new.counts k.0 k.1 k.2)
       | in_default w ↦
           subst (λ (l : List ℕ). Progress c.args.rows.now c.args.words.now (c.loop-place.place + 1) c.step.new.self l) (sym w.counts-is)

@@ -34,8 +34,8 @@ use Rattle.case_paper.proofs.Afters.{run-whole, run_inside, whole_same, whole_of
 use Rattle.case_paper.proofs.Outcomes.{rank-small, no_more}
 
 -- the counts are those of the records, by rank
-abbrev pub Tally : List ℕ → List Record → Type 0
-Tally counts rs = (k : ℕ) → k < 4 → get_or counts k 0 ≡ count_rank k rs
+abbrev pub Tallied : List ℕ → List Record → Type 0
+Tallied counts rs = (k : ℕ) → k < 4 → get_or counts k 0 ≡ count_rank k rs
 
 abbrev pub Ordered : Record → Type 0
 Ordered r = InOrder r.sort r.amounts
@@ -49,7 +49,7 @@ pub record Progress (rows w : List ℕ) (i : ℕ) (s : State) (counts : List ℕ
   pub records : List Record
   pub got : Read (take i w) s head records
   pub ordered : AllByRecursion Ordered records
-  pub tally : Tally counts records
+  pub tally : Tallied counts records
   pub four : length counts ≡ 4
   pub fitting : (k : ℕ) → k < 4 → get_or counts k 0 ≤ get_or rows k 0
   pub met : s ≡ Done → CountsMet head records
@@ -72,7 +72,7 @@ module _ (counts : List ℕ) (j : ℕ) (four : length counts ≡ 4) (small : j <
   more_other : (k : ℕ) → (k ≡ j → ⊥) → get_or more k 0 ≡ get_or counts k 0
   more_other k n = get_or-set_other counts j k (get_or counts j 0 + 1) 0 n
 
-  tally_push : (rs : List Record) (r : Record) → rank r.sort ≡ j → Tally counts rs → Tally more (rs ++ (r ∷ []))
+  tally_push : (rs : List Record) (r : Record) → rank r.sort ≡ j → Tallied counts rs → Tallied more (rs ++ (r ∷ []))
   tally_push rs r o t k h =
       let p = count_push k rs r in
       let t' = t k h in
@@ -112,20 +112,20 @@ module _ (w h : List ℕ) (i : ℕ) (rs : List Record) (v : Whole (take i w) h r
       let c = head_long in
       ap payload_of (sym (get_or-take i w (2 + k) 0 (omega arith)) ∙ ap (λ (u : List ℕ). get_or u (2 + k) 0) v.words ∙ get_or_append_left h (flat_map record_words rs) 0 (2 + k) (omega arith))
 
-  pub counted_met : (counts : List ℕ) → Tally counts rs → Counted counts w → CountsMet h rs
+  pub counted_met : (counts : List ℕ) → Tallied counts rs → Counted counts w → CountsMet h rs
   counted_met counts t c k l = sym (t k l) ∙ c k l ∙ head_read k l
 
-  pub met_counted : (counts : List ℕ) → Tally counts rs → CountsMet h rs → Counted counts w
+  pub met_counted : (counts : List ℕ) → Tallied counts rs → CountsMet h rs → Counted counts w
   met_counted counts t c k l = t k l ∙ c k l ∙ sym (head_read k l)
 
-  pub rowed_row : (rows counts : List ℕ) (q : Sort) → Tally counts rs → Rowed rows counts w q → HasRow rows h rs q
+  pub rowed_row : (rows counts : List ℕ) (q : Sort) → Tallied counts rs → Rowed rows counts w q → HasRow rows h rs q
   rowed_row rows counts q t r =
       let b = rank-small q in
       let e = t (rank q) b in
       let d = head_read (rank q) b in
       (omega arith, omega arith)
 
-  pub row_rowed : (rows counts : List ℕ) (q : Sort) → Tally counts rs → HasRow rows h rs q → Rowed rows counts w q
+  pub row_rowed : (rows counts : List ℕ) (q : Sort) → Tallied counts rs → HasRow rows h rs q → Rowed rows counts w q
   row_rowed rows counts q t r =
       let b = rank-small q in
       let e = t (rank q) b in
@@ -341,9 +341,6 @@ module _ (rows w : List ℕ) (i : ℕ) (s s' : State) (counts : List ℕ) (p : P
         | inr k ↦ k
       ]
 
-  pub closed_long : length (amounts_of this.sort) ≡ this.read + 1
-  closed_long = let k = closed_last in let g = good.1 in omega arith
-
   closed_place : length full.before + suc this.read ≡ i
   closed_place =
       let n = length-take-le i w (omega arith) in
@@ -352,9 +349,6 @@ module _ (rows w : List ℕ) (i : ℕ) (s s' : State) (counts : List ℕ) (p : P
       let j = length-append full.before (this.first ∷ full.part) in
       let o = full.long in
       omega arith
-
-  pub closed_room : this.read + 1 ≤ i
-  closed_room = let c = closed_place in omega arith
 
   -- the words up to and with this one
   upto : take (i + 1) w ≡ full.before ++ (this.first ∷ full.part)
@@ -474,7 +468,7 @@ module _ (rows w : List ℕ) (i : ℕ) (s s' : State) (counts : List ℕ) (p : P
         records = rs;
         got = after_read;
         ordered = All-push Ordered p.records made p.ordered (ordered_made o);
-        tally = subst (λ (cs : List ℕ). Tally cs rs) (sym c) (tally_push counts (rank this.sort) p.four b p.records made refl p.tally);
+        tally = subst (λ (cs : List ℕ). Tallied cs rs) (sym c) (tally_push counts (rank this.sort) p.four b p.records made refl p.tally);
         four = ap length c ∙ length-set counts (rank this.sort) (get_or counts (rank this.sort) 0 + 1) ∙ p.four;
         fitting = subst (λ (cs : List ℕ). (k : ℕ) → k < 4 → get_or cs k 0 ≤ get_or rows k 0) (sym c) (fitting_push counts (rank this.sort) p.four b rows r.1 p.fitting);
         met = λ d. absurd (next-done a (sym then ∙ d));

@@ -14,8 +14,9 @@ use Rattle.word.proofs.Words.{kind_word}
 use Rattle.word.proofs.Slots.{matches_length}
 use Rattle.case_paper.specs.Case.{head_slots, FirstWord, amounts_of, sort_of, Record, record_words, end_word, Formed, CaseForm}
 use Rattle.case_paper.specs.CaseFault.{Whole, Inside, OpenWord, Completes}
-use Rattle.case_paper.specs.State.{after_sort, open_first, next, Takes}
+use Rattle.case_paper.specs.State.{after_sort, opened, read_more, open_first, next, Takes}
 use Rattle.case_paper.specs.declared.sort.Sort.{Sort}
+use Rattle.case_paper.specs.declared.state.Open.{Open}
 use Rattle.case_paper.specs.declared.state.State.{State}
 use Rattle.case_paper.specs.declared.state.State.TheVariants.{Head, Next, Amounts, Done}
 use Rattle.case_paper.proofs.States.{first-sort, first-no_end, next-record, next_more, next_last, amounts_some}
@@ -39,27 +40,27 @@ run-head (a ∷ b ∷ c ∷ d ∷ e ∷ []) m = absurd m.1.1.1.1.1
 run-head (a ∷ b ∷ c ∷ d ∷ e ∷ f ∷ []) m = refl
 run-head (a ∷ b ∷ c ∷ d ∷ e ∷ f ∷ g ∷ h) m = absurd m.1.1.1.1.1.1
 
-run-part : (q : Sort) (first read : ℕ) (u : List ℕ) → read + length u < length (amounts_of q) → run (Amounts q first read) u ≡ Amounts q first (read + length u)
-run-part q first read [] h = ap (Amounts q first) (let e : read ≡ read + 0 = omega arith in e)
-run-part q first read (x ∷ u) h =
-    ap (λ (s : State). run s u) (next_more q first read x (omega arith)) ∙ run-part q first (read + 1) u (omega arith)
-    ∙ ap (Amounts q first) (let e : (read + 1) + length u ≡ read + suc (length u) = omega arith in e)
+run-part : (o : Open) (u : List ℕ) → o.read + length u < length (amounts_of o.sort) → run (Amounts o) u ≡ Amounts (record o { read = o.read + length u })
+run-part o [] h = ap (λ (n : ℕ). Amounts (record o { read = n })) (let e : o.read ≡ o.read + 0 = omega arith in e)
+run-part o (x ∷ u) h =
+    ap (λ (s : State). run s u) (next_more o x (omega arith)) ∙ run-part (read_more o) u (omega arith)
+    ∙ ap (λ (n : ℕ). Amounts (record o { read = n })) (let e : (o.read + 1) + length u ≡ o.read + suc (length u) = omega arith in e)
 
-run-full : (q : Sort) (first read x : ℕ) (u : List ℕ) → read + suc (length u) ≡ length (amounts_of q) → run (Amounts q first read) (x ∷ u) ≡ Next (after_sort q)
-run-full q first read x [] h = next_last q first read x (omega arith)
-run-full q first read x (y ∷ u) h =
-    ap (λ (s : State). run s (y ∷ u)) (next_more q first read x (omega arith)) ∙ run-full q first (read + 1) y u (omega arith)
+run-full : (o : Open) (x : ℕ) (u : List ℕ) → o.read + suc (length u) ≡ length (amounts_of o.sort) → run (Amounts o) (x ∷ u) ≡ Next (after_sort o.sort)
+run-full o x [] h = next_last o x (omega arith)
+run-full o x (y ∷ u) h =
+    ap (λ (s : State). run s (y ∷ u)) (next_more o x (omega arith)) ∙ run-full (read_more o) y u (omega arith)
 
-opened : (a : Place) (q : Sort) (x : ℕ) → FirstWord q x → next (Next a) x ≡ Amounts q x 0
-opened a q x f = next-record a x (first-no_end q x f) ∙ ap (λ (z : Sort). Amounts z x 0) (first-sort q x f)
+next-opened : (a : Place) (q : Sort) (x : ℕ) → FirstWord q x → next (Next a) x ≡ Amounts (opened q x)
+next-opened a q x f = next-record a x (first-no_end q x f) ∙ ap (λ (z : Sort). Amounts (opened z x)) (first-sort q x f)
 
-run-amounts : (q : Sort) (first : ℕ) (u : List ℕ) → FirstWord q first → length u ≡ length (amounts_of q) → run (Amounts q first 0) u ≡ Next (after_sort q)
+run-amounts : (q : Sort) (first : ℕ) (u : List ℕ) → FirstWord q first → length u ≡ length (amounts_of q) → run (Amounts (opened q first)) u ≡ Next (after_sort q)
 run-amounts q first [] f l = let s = amounts_some q first f in absurd (omega arith)
-run-amounts q first (x ∷ u) f l = run-full q first 0 x u (omega arith)
+run-amounts q first (x ∷ u) f l = run-full (opened q first) x u (omega arith)
 
 run-record : (a : Place) (r : Record) → Formed r → run (Next a) (record_words r) ≡ Next (after_sort r.sort)
 run-record a r f =
-    ap (λ (s : State). run s r.amounts) (opened a r.sort r.first f.0)
+    ap (λ (s : State). run s r.amounts) (next-opened a r.sort r.first f.0)
     ∙ run-amounts r.sort r.first r.amounts f.0 (matches_length (amounts_of r.sort) r.amounts f.1)
 
 run-records : (a : Place) (rs : List Record) → AllByRecursion Formed rs → (b : Place) × (run (Next a) (flat_map record_words rs) ≡ Next b)
@@ -73,26 +74,26 @@ run-whole p h rs w =
     let t = run-records place.Buses rs w.formed in
     (t.0, ap (run Head) w.words ∙ run-append Head h (flat_map record_words rs) ∙ ap (λ (s : State). run s (flat_map record_words rs)) (run-head h w.headed) ∙ t.1)
 
-pub run_inside : (p : List ℕ) (x : ℕ) → Inside p x → (q : Sort) × (read : ℕ) × (run Head p ≡ Amounts q x read)
+pub run_inside : (p : List ℕ) (x : ℕ) → Inside p x → (q : Sort) × (read : ℕ) × (run Head p ≡ Amounts (record { sort = q; first = x; read = read }))
 run_inside p x i =
     let b = run-whole i.before i.head i.records i.whole in
     let s = i.short in (
       i.sort,
       length i.part,
       ap (run Head) i.words ∙ run-append Head i.before (x ∷ i.part) ∙ ap (λ (s : State). run s (x ∷ i.part)) b.1
-          ∙ ap (λ (s : State). run s i.part) (opened b.0 i.sort x i.opens)
-          ∙ run-part i.sort x 0 i.part (omega arith) ∙ ap (Amounts i.sort x) (let e : 0 + length i.part ≡ length i.part = omega arith in e),
+          ∙ ap (λ (s : State). run s i.part) (next-opened b.0 i.sort x i.opens)
+          ∙ run-part (opened i.sort x) i.part (omega arith) ∙ ap (λ (n : ℕ). Amounts (record { sort = i.sort; first = x; read = n })) (let e : 0 + length i.part ≡ length i.part = omega arith in e),
     )
 
 -- ---- the states differ
-pub next-amounts : (a : Place) (q : Sort) (x read : ℕ) → Next a ≡ Amounts q x read → ⊥
-next-amounts a q x read e = search rules
+pub next-amounts : (a : Place) (o : Open) → Next a ≡ Amounts o → ⊥
+next-amounts a o e = search rules
 
 pub next-done : (a : Place) → Next a ≡ Done → ⊥
 next-done a e = search rules
 
-pub amounts_done : (q : Sort) (x read : ℕ) → Amounts q x read ≡ Done → ⊥
-amounts_done q x read e = search rules
+pub amounts_done : (o : Open) → Amounts o ≡ Done → ⊥
+amounts_done o e = search rules
 
 -- ---- the open word
 pub inside_open : (p : List ℕ) (x : ℕ) → Inside p x → open_first (run Head p) ≡ Some x

@@ -18,9 +18,10 @@ use Rattle.word.proofs.Machines as machine
 use Rattle.word.proofs.Words.{kind_word, word_at}
 use Rattle.word.proofs.Fillings.{end_known, amount_fits}
 use Rattle.case_paper.specs.Case.{FirstWord, amounts_of, power_slot, price_slot, head_amounts, head_slots, rank, sort_kind, sort_of, Record, record_words, end_word, Formed, Sorted, CaseForm}
-use Rattle.case_paper.specs.State.{after_sort, state_place, next, Takes, Good, AtRecord}
+use Rattle.case_paper.specs.State.{after_sort, state_place, read_more, next, Takes, Good, AtRecord}
 use Rattle.case_paper.specs.declared.sort.Sort.{Sort}
 use Rattle.case_paper.specs.declared.sort.Sort.TheVariants.{Bus, Stepped, Curved, Branch}
+use Rattle.case_paper.specs.declared.state.Open.{Open}
 use Rattle.case_paper.specs.declared.state.State.{State}
 use Rattle.case_paper.specs.declared.state.State.TheVariants.{Head, Counts, Next, Amounts, Done}
 use Rattle.case_paper.proofs.States.{first_kind, first-sort, first-no_end, end_or_not, next-end, next-record, next-count, next-counted, next_more, next_last, good_next}
@@ -132,7 +133,7 @@ abbrev Rest : State → List ℕ → Type 0
 Rest Head w = CaseForm w
 Rest (Counts read) w = RestC read w
 Rest (Next p) w = RestN p w
-Rest (Amounts q first read) w = RestA q read w
+Rest (Amounts o) w = RestA o.sort o.read w
 Rest Done w = w ≡ []
 
 -- each amount slot asks for an amount
@@ -221,20 +222,20 @@ next-forth p x w (r ∷ rs) a e f b =
           })),
     )
 
-amounts_forth : (q : Sort) (first read x : ℕ) (w : List ℕ) → read < length (amounts_of q) → (u v : List ℕ) → (x ∷ w) ≡ u ++ v → Matches (drop read (amounts_of q)) u → RestN (after_sort q) v → Takes (Amounts q first read) x × Rest (next (Amounts q first read) x) w
-amounts_forth q first read x w h [] v e m n =
-    absurd (subst (λ (ss : List Slot). Matches ss []) (due_rest q read h) m)
-amounts_forth q first read x w h (y ∷ u) v e m n =
+amounts_forth : (o : Open) (x : ℕ) (w : List ℕ) → o.read < length (amounts_of o.sort) → (u v : List ℕ) → (x ∷ w) ≡ u ++ v → Matches (drop o.read (amounts_of o.sort)) u → RestN (after_sort o.sort) v → Takes (Amounts o) x × Rest (next (Amounts o) x) w
+amounts_forth o x w h [] v e m n =
+    absurd (subst (λ (ss : List Slot). Matches ss []) (due_rest o.sort o.read h) m)
+amounts_forth o x w h (y ∷ u) v e m n =
     let d = ∷-parts e in
-    let m' = subst (λ (ss : List Slot). Matches ss (y ∷ u)) (due_rest q read h) m in
-    let k : kind_of x ≡ kind.Amount = ap kind_of d.0 ∙ m'.0.0 ∙ due_kind q read h in
-    let i : InRange (get_or (amounts_of q) read slot.End) x = subst (λ (z : ℕ). InRange (get_or (amounts_of q) read slot.End) z) (sym d.0) m'.0.1 in (
+    let m' = subst (λ (ss : List Slot). Matches ss (y ∷ u)) (due_rest o.sort o.read h) m in
+    let k : kind_of x ≡ kind.Amount = ap kind_of d.0 ∙ m'.0.0 ∙ due_kind o.sort o.read h in
+    let i : InRange (get_or (amounts_of o.sort) o.read slot.End) x = subst (λ (z : ℕ). InRange (get_or (amounts_of o.sort) o.read slot.End) z) (sym d.0) m'.0.1 in (
       (kind_amount x k, i),
-      elim (cases_lt (read + 1) (length (amounts_of q))) [
-        | inl l ↦ subst (λ (s : State). Rest s w) (sym (next_more q first read x l)) (record { amounts = u; rest = v; words = d.1; matches = m'.1; more = n })
-        | inr l ↦ let z : u ≡ [] = nothing_left (amounts_of q) (read + 1) u l m'.1 in
-            subst (λ (s : State). Rest s w) (sym (next_last q first read x l))
-            (subst (λ (t : List ℕ). RestN (after_sort q) t) (sym (d.1 ∙ ap (λ (t : List ℕ). t ++ v) z)) n)
+      elim (cases_lt (o.read + 1) (length (amounts_of o.sort))) [
+        | inl l ↦ subst (λ (s : State). Rest s w) (sym (next_more o x l)) (record { amounts = u; rest = v; words = d.1; matches = m'.1; more = n })
+        | inr l ↦ let z : u ≡ [] = nothing_left (amounts_of o.sort) (o.read + 1) u l m'.1 in
+            subst (λ (s : State). Rest s w) (sym (next_last o x l))
+            (subst (λ (t : List ℕ). RestN (after_sort o.sort) t) (sym (d.1 ∙ ap (λ (t : List ℕ). t ++ v) z)) n)
       ],
     )
 
@@ -272,7 +273,7 @@ forth Head x w g c =
     (record { records = c.records; words = refl; formed = c.formed; sorted = c.sorted })
 forth (Counts read) x w g c = counts_forth read x w g c.amounts c.rest c.words c.matches c.more
 forth (Next p) x w g c = next-forth p x w c.records g c.words c.formed c.sorted
-forth (Amounts q first read) x w g c = amounts_forth q first read x w g.1 c.amounts c.rest c.words c.matches c.more
+forth (Amounts o) x w g c = amounts_forth o x w g.1 c.amounts c.rest c.words c.matches c.more
 forth Done x w g c = absurd (let z : length (x ∷ w) ≡ 0 = ap length c in omega arith)
 
 back : (s : State) (x : ℕ) (w : List ℕ) → Good s → Takes s x → Rest (next s x) w → Rest s (x ∷ w)
@@ -326,26 +327,26 @@ back (Next p) x w g t c =
             sorted = (may_rank p (sort_of x) g m, subst (λ (i : ℕ). Sorted i a.more.records) (rank-after (sort_of x)) a.more.sorted);
           }
     ]
-back (Amounts q first read) x w g t c =
-    let k : kind_of x ≡ slot_kind (get_or (amounts_of q) read slot.End) = stands_amount x t.0 ∙ sym (due_kind q read g.1) in
-    elim (cases_lt (read + 1) (length (amounts_of q))) [
+back (Amounts o) x w g t c =
+    let k : kind_of x ≡ slot_kind (get_or (amounts_of o.sort) o.read slot.End) = stands_amount x t.0 ∙ sym (due_kind o.sort o.read g.1) in
+    elim (cases_lt (o.read + 1) (length (amounts_of o.sort))) [
       | inl l ↦
-          let a : RestA q (read + 1) w = subst (λ (s : State). Rest s w) (next_more q first read x l) c in
+          let a : RestA o.sort (o.read + 1) w = subst (λ (s : State). Rest s w) (next_more o x l) c in
           record {
             amounts = x ∷ a.amounts;
             rest = a.rest;
             words = ap (λ (v : List ℕ). x ∷ v) a.words;
-            matches = subst (λ (ss : List Slot). Matches ss (x ∷ a.amounts)) (sym (due_rest q read g.1)) ((k, t.1), a.matches);
+            matches = subst (λ (ss : List Slot). Matches ss (x ∷ a.amounts)) (sym (due_rest o.sort o.read g.1)) ((k, t.1), a.matches);
             more = a.more;
           }
       | inr l ↦
-          let n : RestN (after_sort q) w = subst (λ (s : State). Rest s w) (next_last q first read x l) c in
+          let n : RestN (after_sort o.sort) w = subst (λ (s : State). Rest s w) (next_last o x l) c in
           record {
             amounts = x ∷ [];
             rest = w;
             words = refl;
-            matches = subst (λ (ss : List Slot). Matches ss (x ∷ [])) (sym (due_rest q read g.1))
-                ((k, t.1), subst (λ (ss : List Slot). Matches ss []) (sym (drop_all (read + 1) (amounts_of q) l)) tt);
+            matches = subst (λ (ss : List Slot). Matches ss (x ∷ [])) (sym (due_rest o.sort o.read g.1))
+                ((k, t.1), subst (λ (ss : List Slot). Matches ss []) (sym (drop_all (o.read + 1) (amounts_of o.sort) l)) tt);
             more = n;
           }
     ]
@@ -368,7 +369,7 @@ rest_none : (s : State) → Good s → Rest s [] → s ≡ Done
 rest_none Head g c = absurd (head_none c.head (flat_map record_words c.records ++ end_word) c.words c.headed)
 rest_none (Counts read) g c = absurd (amounts_none head_amounts read g c.amounts c.rest c.words c.matches)
 rest_none (Next p) g c = next-none c.records c.words
-rest_none (Amounts q first read) g c = absurd (amounts_none (amounts_of q) read g.1 c.amounts c.rest c.words c.matches)
+rest_none (Amounts o) g c = absurd (amounts_none (amounts_of o.sort) o.read g.1 c.amounts c.rest c.words c.matches)
 rest_none Done g c = refl
 
 accepts : (s : State) (w : List ℕ) → Good s → Rest s w → Accepts s w
@@ -430,8 +431,8 @@ live_next p a =
     )
 
 -- a due amount is taken
-take_amount : (q : Sort) (first read x : ℕ) → read < length (amounts_of q) → Fits (get_or (amounts_of q) read slot.End) x → Takes (Amounts q first read) x
-take_amount q first read x h f = (kind_amount x (f.0 ∙ due_kind q read h), f.1)
+take_amount : (o : Open) (x : ℕ) → o.read < length (amounts_of o.sort) → Fits (get_or (amounts_of o.sort) o.read slot.End) x → Takes (Amounts o) x
+take_amount o x h f = (kind_amount x (f.0 ∙ due_kind o.sort o.read h), f.1)
 
 take_count : (read x : ℕ) → read < 5 → Fits (get_or head_amounts read slot.End) x → Takes (Counts read) x
 take_count read x h f = (kind_amount x (f.0 ∙ head_kind read h), f.1)
@@ -442,18 +443,18 @@ after-at (Stepped n) = tt
 after-at Curved = tt
 after-at Branch = tt
 
-live_amounts : (left : ℕ) (q : Sort) (first read : ℕ) → read + suc left ≡ length (amounts_of q) → Live (Amounts q first read)
+live_amounts : (left : ℕ) (o : Open) → o.read + suc left ≡ length (amounts_of o.sort) → Live (Amounts o)
 unfolding Live
-live_amounts zero q first read e =
-    let x = All-get_or Sample (amounts_of q) read slot.End (omega arith) (samples q) in
-    let t = take_amount q first read x.0 (omega arith) x.1 in
-    let l = live_next (after_sort q) (after-at q) in
-    (x.0 ∷ l.0, (t, subst (λ (s : State). Accepts s l.0) (sym (next_last q first read x.0 (omega arith))) l.1))
-live_amounts (suc left) q first read e =
-    let x = All-get_or Sample (amounts_of q) read slot.End (omega arith) (samples q) in
-    let t = take_amount q first read x.0 (omega arith) x.1 in
-    let l = live_amounts left q first (read + 1) (omega arith) in
-    (x.0 ∷ l.0, (t, subst (λ (s : State). Accepts s l.0) (sym (next_more q first read x.0 (omega arith))) l.1))
+live_amounts zero o e =
+    let x = All-get_or Sample (amounts_of o.sort) o.read slot.End (omega arith) (samples o.sort) in
+    let t = take_amount o x.0 (omega arith) x.1 in
+    let l = live_next (after_sort o.sort) (after-at o.sort) in
+    (x.0 ∷ l.0, (t, subst (λ (s : State). Accepts s l.0) (sym (next_last o x.0 (omega arith))) l.1))
+live_amounts (suc left) o e =
+    let x = All-get_or Sample (amounts_of o.sort) o.read slot.End (omega arith) (samples o.sort) in
+    let t = take_amount o x.0 (omega arith) x.1 in
+    let l = live_amounts left (read_more o) (omega arith) in
+    (x.0 ∷ l.0, (t, subst (λ (s : State). Accepts s l.0) (sym (next_more o x.0 (omega arith))) l.1))
 
 live_counts : (left read : ℕ) → read + suc left ≡ 5 → Live (Counts read)
 unfolding Live
@@ -476,7 +477,7 @@ unfolding Live
 live Head g = let l = live_counts 4 0 refl in (word_of kind.Head 1 ∷ l.0, (takes_head, l.1))
 live (Counts read) g = live_counts (5 - (read + 1)) read (omega arith)
 live (Next p) g = live_next p g
-live (Amounts q first read) g = live_amounts (length (amounts_of q) - (read + 1)) q first read (omega arith)
+live (Amounts o) g = live_amounts (length (amounts_of o.sort) - (o.read + 1)) o (omega arith)
 live Done g = ([], refl)
 
 -- ---- where a kind may stand, some word of that kind is taken
@@ -527,7 +528,7 @@ stands_word (Counts read) k g n m =
     let x = All-get_or Sample head_amounts read slot.End g head_samples in
     (x.0, x.1.0 ∙ head_kind read g ∙ sym (at-amount k m), take_count read x.0 g x.1)
 stands_word (Next p) k g n m = opener p k g m
-stands_word (Amounts q first read) k g n m =
-    let x = All-get_or Sample (amounts_of q) read slot.End g.1 (samples q) in
-    (x.0, x.1.0 ∙ due_kind q read g.1 ∙ sym (at-amount k m), take_amount q first read x.0 g.1 x.1)
+stands_word (Amounts o) k g n m =
+    let x = All-get_or Sample (amounts_of o.sort) o.read slot.End g.1 (samples o.sort) in
+    (x.0, x.1.0 ∙ due_kind o.sort o.read g.1 ∙ sym (at-amount k m), take_amount o x.0 g.1 x.1)
 stands_word Done k g n m = absurd (n refl)

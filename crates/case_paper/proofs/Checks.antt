@@ -69,7 +69,7 @@ pub open_word : (s : State) (p h : List ℕ) (rs : List Record) → Read p s h r
 open_word Head p h rs r = closed_word Head p r.state refl
 open_word (Counts n) p h rs r = closed_word (Counts n) p r.state refl
 open_word (Next a) p h rs r = closed_word (Next a) p r.state refl
-open_word (Amounts q first read) p h rs r = stage_inside q first read p h rs r.good r.stage
+open_word (Amounts o) p h rs r = stage_inside o p h rs r.good r.stage
 open_word Done p h rs r = closed_word Done p r.state refl
 
 module _ (w : List ℕ) (i : ℕ) (s : State) (h : List ℕ) (rs : List Record) (r : Read (take i w) s h rs) where

@@ -20,8 +20,9 @@ use Rattle.case_paper.specs.Order.{InOrder}
 use Rattle.case_paper.specs.Fault.{record_number}
 use Rattle.case_paper.specs.Complete.{amounts_read, Rowed, Counted, Ending, Unsound}
 use Rattle.case_paper.specs.CaseFault.{Whole, count_rank, head_count, CountsMet, HasRow, LawfulCase, OpenWord, EarlyEnd, Completes, Shows, RefusedCase}
-use Rattle.case_paper.specs.State.{open_first, next, Takes, Missteps, Good}
+use Rattle.case_paper.specs.State.{open_first, read_more, next, Takes, Missteps, Good}
 use Rattle.case_paper.specs.declared.sort.Sort.{Sort}
+use Rattle.case_paper.specs.declared.state.Open.{Open}
 use Rattle.case_paper.specs.declared.state.State.{State}
 use Rattle.case_paper.specs.declared.state.State.TheVariants.{Head, Counts, Next, Amounts, Done}
 use Rattle.case_paper.specs.declared.fault.RecordFault.{RecordFault}
@@ -33,8 +34,8 @@ use Rattle.case_paper.proofs.Afters.{run-whole, run_inside, whole_same, whole_of
 use Rattle.case_paper.proofs.Outcomes.{rank-small, no_more}
 
 -- the counts are those of the records, by rank
-abbrev pub Tally : List ℕ → List Record → Type 0
-Tally counts rs = (k : ℕ) → k < 4 → get_or counts k 0 ≡ count_rank k rs
+abbrev pub Tallied : List ℕ → List Record → Type 0
+Tallied counts rs = (k : ℕ) → k < 4 → get_or counts k 0 ≡ count_rank k rs
 
 abbrev pub Ordered : Record → Type 0
 Ordered r = InOrder r.sort r.amounts
@@ -48,7 +49,7 @@ pub record Progress (rows w : List ℕ) (i : ℕ) (s : State) (counts : List ℕ
   pub records : List Record
   pub got : Read (take i w) s head records
   pub ordered : AllByRecursion Ordered records
-  pub tally : Tally counts records
+  pub tally : Tallied counts records
   pub four : length counts ≡ 4
   pub fitting : (k : ℕ) → k < 4 → get_or counts k 0 ≤ get_or rows k 0
   pub met : s ≡ Done → CountsMet head records
@@ -71,7 +72,7 @@ module _ (counts : List ℕ) (j : ℕ) (four : length counts ≡ 4) (small : j <
   more_other : (k : ℕ) → (k ≡ j → ⊥) → get_or more k 0 ≡ get_or counts k 0
   more_other k n = get_or-set_other counts j k (get_or counts j 0 + 1) 0 n
 
-  tally_push : (rs : List Record) (r : Record) → rank r.sort ≡ j → Tally counts rs → Tally more (rs ++ (r ∷ []))
+  tally_push : (rs : List Record) (r : Record) → rank r.sort ≡ j → Tallied counts rs → Tallied more (rs ++ (r ∷ []))
   tally_push rs r o t k h =
       let p = count_push k rs r in
       let t' = t k h in
@@ -111,20 +112,20 @@ module _ (w h : List ℕ) (i : ℕ) (rs : List Record) (v : Whole (take i w) h r
       let c = head_long in
       ap payload_of (sym (get_or-take i w (2 + k) 0 (omega arith)) ∙ ap (λ (u : List ℕ). get_or u (2 + k) 0) v.words ∙ get_or_append_left h (flat_map record_words rs) 0 (2 + k) (omega arith))
 
-  pub counted_met : (counts : List ℕ) → Tally counts rs → Counted counts w → CountsMet h rs
+  pub counted_met : (counts : List ℕ) → Tallied counts rs → Counted counts w → CountsMet h rs
   counted_met counts t c k l = sym (t k l) ∙ c k l ∙ head_read k l
 
-  pub met_counted : (counts : List ℕ) → Tally counts rs → CountsMet h rs → Counted counts w
+  pub met_counted : (counts : List ℕ) → Tallied counts rs → CountsMet h rs → Counted counts w
   met_counted counts t c k l = t k l ∙ c k l ∙ sym (head_read k l)
 
-  pub rowed_row : (rows counts : List ℕ) (q : Sort) → Tally counts rs → Rowed rows counts w q → HasRow rows h rs q
+  pub rowed_row : (rows counts : List ℕ) (q : Sort) → Tallied counts rs → Rowed rows counts w q → HasRow rows h rs q
   rowed_row rows counts q t r =
       let b = rank-small q in
       let e = t (rank q) b in
       let d = head_read (rank q) b in
       (omega arith, omega arith)
 
-  pub row_rowed : (rows counts : List ℕ) (q : Sort) → Tally counts rs → HasRow rows h rs q → Rowed rows counts w q
+  pub row_rowed : (rows counts : List ℕ) (q : Sort) → Tallied counts rs → HasRow rows h rs q → Rowed rows counts w q
   row_rowed rows counts q t r =
       let b = rank-small q in
       let e = t (rank q) b in
@@ -173,16 +174,16 @@ module _ (rows w : List ℕ) (i : ℕ) (s : State) (counts : List ℕ) (p : Prog
       x.unmet (subst (λ (h : List ℕ). CountsMet h x.records) e.0 (subst (λ (rs : List Record). CountsMet p.head rs) e.1 m))
 
   -- a record is completed only inside one
-  completes_state : (place : ℕ) (h : List ℕ) (rs : List Record) (r : Record) → Completes w i place h rs r → (q : Sort) × (x : ℕ) × (read : ℕ) × (s ≡ Amounts q x read)
+  completes_state : (place : ℕ) (h : List ℕ) (rs : List Record) (r : Record) → Completes w i place h rs r → (o : Open) × (s ≡ Amounts o)
   completes_state place h rs r c =
-      let t = run_inside (take i w) r.first (completes_inside w i place h rs r c) in (t.0, r.first, t.1, p.got.state ∙ t.2)
+      let t = run_inside (take i w) r.first (completes_inside w i place h rs r c) in (record { sort = t.0; first = r.first; read = t.1 }, p.got.state ∙ t.2)
 
   -- inside a record, no refusal above 5 meets a word
-  late_done : (r : WordRefusal) → Missteps s (get_or w i 0) r → (q : Sort) (x read : ℕ) → s ≡ Amounts q x read → 5 < refusal_number r → ⊥
-  late_done Stops m q x read e k = omega arith
-  late_done KindRefusal m q x read e k = omega arith
-  late_done Range m q x read e k = omega arith
-  late_done Follows m q x read e k = amounts_done q x read (sym e ∙ m)
+  late_done : (r : WordRefusal) → Missteps s (get_or w i 0) r → (o : Open) → s ≡ Amounts o → 5 < refusal_number r → ⊥
+  late_done Stops m o e k = omega arith
+  late_done KindRefusal m o e k = omega arith
+  late_done Range m o e k = omega arith
+  late_done Follows m o e k = amounts_done o (sym e ∙ m)
 
   -- the words stop
   pub refused_stops : i ≡ length w → (s ≡ Done → ⊥) → RefusedCase rows w (Word (record { refusal = Stops; place = i; first = open_first s }))
@@ -243,9 +244,9 @@ module _ (rows w : List ℕ) (i : ℕ) (s : State) (counts : List ℕ) (p : Prog
           let n : refusal_number g.refusal ≡ refusal_number r = ap refusal_number c.0 in omega arith
       least (Word g) (e, o, inr (q, x)) k = in_time time (subst (EarlyEnd w) (sym e) x)
       least (Order place x) (h, rs, t, c, fx, n) k =
-          let d = completes_state place h rs t c in late_done r m d.0 d.1 d.2 d.3 (omega arith)
+          let d = completes_state place h rs t c in late_done r m d.0 d.1 (omega arith)
       least (Count place x) (h, rs, t, c, fx, n) k =
-          let d = completes_state place h rs t c in late_done r m d.0 d.1 d.2 d.3 (omega arith)
+          let d = completes_state place h rs t c in late_done r m d.0 d.1 (omega arith)
 
 -- ---- the end word
 -- only an end word between records leads to the end
@@ -261,17 +262,17 @@ ending (Next a) x t e =
       | inl k ↦ (a, refl, k)
       | inr n ↦ absurd (let z = sym (next-record a x n) ∙ e in search rules)
     ]
-ending (Amounts q first read) x t e =
-    absurd (elim (cases_lt (read + 1) (length (amounts_of q))) [
-      | inl l ↦ let z = sym (next_more q first read x l) ∙ e in search rules
-      | inr l ↦ let z = sym (next_last q first read x l) ∙ e in search rules
+ending (Amounts o) x t e =
+    absurd (elim (cases_lt (o.read + 1) (length (amounts_of o.sort))) [
+      | inl l ↦ let z = sym (next_more o x l) ∙ e in search rules
+      | inr l ↦ let z = sym (next_last o x l) ∙ e in search rules
     ])
 ending Done x t e = absurd t.1
 
 -- ---- a word that completes no record
-module _ (rows w : List ℕ) (i : ℕ) (s s' : State) (counts : List ℕ) (p : Progress rows w i s counts) (l : i < length w) (t : Takes s (get_or w i 0)) (e : s' ≡ next s (get_or w i 0)) (time : Ending s (get_or w i 0) → Counted counts w) (open-yet : (q : Sort) (first read : ℕ) (a : Place) → s ≡ Amounts q first read → s' ≡ Next a → ⊥) where
+module _ (rows w : List ℕ) (i : ℕ) (s s' : State) (counts : List ℕ) (p : Progress rows w i s counts) (l : i < length w) (t : Takes s (get_or w i 0)) (e : s' ≡ next s (get_or w i 0)) (time : Ending s (get_or w i 0) → Counted counts w) (open-yet : (o : Open) (a : Place) → s ≡ Amounts o → s' ≡ Next a → ⊥) where
   staged : StageAt (next s (get_or w i 0)) (take i w ++ (get_or w i 0 ∷ [])) p.records
-  staged = stage_same s (get_or w i 0) (take i w) p.head p.records p.got.good t p.got.stage (λ q first read a x y. open-yet q first read a x (e ∙ y))
+  staged = stage_same s (get_or w i 0) (take i w) p.head p.records p.got.good t p.got.stage (λ o a x y. open-yet o a x (e ∙ y))
 
   got_same : Read (take (i + 1) w) s' staged.head p.records
   got_same = read_next w i s s' p.head staged.head p.records p.records p.got l t e staged.stage
@@ -293,11 +294,11 @@ module _ (rows w : List ℕ) (i : ℕ) (s s' : State) (counts : List ℕ) (p : P
   quiet_same (Order place x) (h, rs, r, c, fx, n) =
       let d = completes_state rows w i s counts p place h rs r c in
       let b = run-whole (take (i + 1) w) h (rs ++ (r ∷ [])) (completes_whole w i place h rs r c) in
-      open-yet d.0 d.1 d.2 b.0 d.3 (got_same.state ∙ b.1)
+      open-yet d.0 b.0 d.1 (got_same.state ∙ b.1)
   quiet_same (Count place x) (h, rs, r, c, fx, n) =
       let d = completes_state rows w i s counts p place h rs r c in
       let b = run-whole (take (i + 1) w) h (rs ++ (r ∷ [])) (completes_whole w i place h rs r c) in
-      open-yet d.0 d.1 d.2 b.0 d.3 (got_same.state ∙ b.1)
+      open-yet d.0 b.0 d.1 (got_same.state ∙ b.1)
 
   pub progress_same : Progress rows w (i + 1) s' counts
   progress_same =
@@ -313,77 +314,71 @@ module _ (rows w : List ℕ) (i : ℕ) (s s' : State) (counts : List ℕ) (p : P
         quiet = quiet_more rows w i p.quiet quiet_same;
       }
 
--- ---- a word that completes the record of this sort and first word, after so many amounts
-module _ (rows w : List ℕ) (i : ℕ) (s s' : State) (counts : List ℕ) (p : Progress rows w i s counts) (l : i < length w) (t : Takes s (get_or w i 0)) (e : s' ≡ next s (get_or w i 0)) (q : Sort) (first read : ℕ) (is : s ≡ Amounts q first read) (a : Place) (then : s' ≡ Next a) where
+-- ---- a word that completes the record that is open
+module _ (rows w : List ℕ) (i : ℕ) (s s' : State) (counts : List ℕ) (p : Progress rows w i s counts) (l : i < length w) (t : Takes s (get_or w i 0)) (e : s' ≡ next s (get_or w i 0)) (this : Open) (is : s ≡ Amounts this) (a : Place) (then : s' ≡ Next a) where
   x : ℕ
   x = get_or w i 0
 
-  good : Good (Amounts q first read)
+  good : Good (Amounts this)
   good = subst (λ (z : State). Good z) is p.got.good
 
-  takes : Takes (Amounts q first read) x
+  takes : Takes (Amounts this) x
   unfolding x
   takes = subst (λ (z : State). Takes z (get_or w i 0)) is t
 
   -- with the word itself
-  full : Part q first (read + 1) (take i w ++ (x ∷ [])) p.head p.records
-  full = amount_more q first read x (take i w) p.head p.records good takes (subst (λ (z : State). Stage z (take i w) p.head p.records) is p.got.stage)
+  full : Part (read_more this) (take i w ++ (x ∷ [])) p.head p.records
+  full = amount_more this x (take i w) p.head p.records good takes (subst (λ (z : State). Stage z (take i w) p.head p.records) is p.got.stage)
 
-  goes : next (Amounts q first read) x ≡ Next a
+  goes : next (Amounts this) x ≡ Next a
   unfolding x
   goes = ap (λ (z : State). next z (get_or w i 0)) (sym is) ∙ sym e ∙ then
 
-  closed_last : length (amounts_of q) ≤ read + 1
+  closed_last : length (amounts_of this.sort) ≤ this.read + 1
   closed_last =
-      elim (cases_lt (read + 1) (length (amounts_of q))) [
-        | inl k ↦ absurd (next-amounts a q first (read + 1) (sym goes ∙ next_more q first read x k))
+      elim (cases_lt (this.read + 1) (length (amounts_of this.sort))) [
+        | inl k ↦ absurd (next-amounts a (read_more this) (sym goes ∙ next_more this x k))
         | inr k ↦ k
       ]
 
-  pub closed_long : length (amounts_of q) ≡ read + 1
-  closed_long = let k = closed_last in let g = good.1 in omega arith
-
-  closed_place : length full.before + suc read ≡ i
+  closed_place : length full.before + suc this.read ≡ i
   closed_place =
       let n = length-take-le i w (omega arith) in
       let k = length-append (take i w) (x ∷ []) in
-      let m : length (take i w ++ (x ∷ [])) ≡ length (full.before ++ (first ∷ full.part)) = ap length full.words in
-      let j = length-append full.before (first ∷ full.part) in
+      let m : length (take i w ++ (x ∷ [])) ≡ length (full.before ++ (this.first ∷ full.part)) = ap length full.words in
+      let j = length-append full.before (this.first ∷ full.part) in
       let o = full.long in
       omega arith
 
-  pub closed_room : read + 1 ≤ i
-  closed_room = let c = closed_place in omega arith
-
   -- the words up to and with this one
-  upto : take (i + 1) w ≡ full.before ++ (first ∷ full.part)
+  upto : take (i + 1) w ≡ full.before ++ (this.first ∷ full.part)
   unfolding x
   upto = take_more w i 0 l ∙ full.words
 
-  start : take ((i - read) - 1) w ≡ full.before
+  start : take ((i - this.read) - 1) w ≡ full.before
   start =
       let c = closed_place in
-      sym (take-take ((i - read) - 1) (i + 1) w (omega arith)) ∙ ap (take ((i - read) - 1)) upto
-      ∙ take_at full.before (first ∷ full.part) ((i - read) - 1) (omega arith)
+      sym (take-take ((i - this.read) - 1) (i + 1) w (omega arith)) ∙ ap (take ((i - this.read) - 1)) upto
+      ∙ take_at full.before (this.first ∷ full.part) ((i - this.read) - 1) (omega arith)
 
   made : Record
-  made = record_of q first (read + 1) (take i w ++ (x ∷ [])) p.head p.records full
+  made = record_of (read_more this) (take i w ++ (x ∷ [])) p.head p.records full
 
-  closed_amounts : amounts_read w i read ≡ full.part
+  closed_amounts : amounts_read w i this.read ≡ full.part
   closed_amounts =
       let c = closed_place in
-      let n : length (full.before ++ (first ∷ [])) ≡ i - read = omega (arith, length-append full.before (first ∷ [])) in
-      between_is w (i - read) (i + 1) ∙ ap (drop (i - read)) (upto ∙ sym (append_assoc full.before (first ∷ []) full.part))
-      ∙ drop_at (full.before ++ (first ∷ [])) full.part (i - read) n
+      let n : length (full.before ++ (this.first ∷ [])) ≡ i - this.read = omega (arith, length-append full.before (this.first ∷ [])) in
+      between_is w (i - this.read) (i + 1) ∙ ap (drop (i - this.read)) (upto ∙ sym (append_assoc full.before (this.first ∷ []) full.part))
+      ∙ drop_at (full.before ++ (this.first ∷ [])) full.part (i - this.read) n
 
-  completes : Completes w i ((i - read) - 1) p.head p.records made
+  completes : Completes w i ((i - this.read) - 1) p.head p.records made
   unfolding made
   completes =
       record {
         inside = l;
-        words = upto ∙ ap (λ (v : List ℕ). v ++ (first ∷ full.part)) (sym start);
+        words = upto ∙ ap (λ (v : List ℕ). v ++ (this.first ∷ full.part)) (sym start);
         whole = subst (λ (v : List ℕ). Whole v p.head p.records) (sym start) full.whole;
-        formed = part_formed q first (read + 1) (take i w ++ (x ∷ [])) p.head p.records good.0 closed_last full;
+        formed = part_formed (read_more this) (take i w ++ (x ∷ [])) p.head p.records good.0 closed_last full;
       }
 
   after_read : Read (take (i + 1) w) s' p.head (p.records ++ (made ∷ []))
@@ -392,43 +387,43 @@ module _ (rows w : List ℕ) (i : ℕ) (s s' : State) (counts : List ℕ) (p : P
       let rs : List Record = p.records ++ (made ∷ []) in
       read_next w i s s' p.head p.head p.records rs p.got l t e
       (subst (λ (z : State). Stage (next z (get_or w i 0)) (take i w ++ (x ∷ [])) p.head rs) (sym is)
-      (subst (λ (z : State). Stage z (take i w ++ (x ∷ [])) p.head rs) (sym (next_last q first read x closed_last))
-      (part_whole q first (read + 1) (take i w ++ (x ∷ [])) p.head p.records good.0 closed_last full)))
+      (subst (λ (z : State). Stage z (take i w ++ (x ∷ [])) p.head rs) (sym (next_last this x closed_last))
+      (part_whole (read_more this) (take i w ++ (x ∷ [])) p.head p.records good.0 closed_last full)))
 
   -- no word's fault shows
   words_quiet : (g : WordFault) → Shows rows w i (Word g) → ⊥
   words_quiet g (n, o, inl r) =
       begins_quiet w i l (read_begins (take (i + 1) w) s' p.head (p.records ++ (made ∷ [])) after_read) g.refusal (subst (Refused CaseForm w g.refusal) (sym n) r)
   words_quiet g (n, o, inr (k, y)) =
-      let b = early_state rows w i s counts p (subst (EarlyEnd w) (sym n) y) in next-amounts b.0 q first read (sym b.1 ∙ is)
+      let b = early_state rows w i s counts p (subst (EarlyEnd w) (sym n) y) in next-amounts b.0 this (sym b.1 ∙ is)
 
   -- no other record is completed
   order_shown : (place y : ℕ) → Shows rows w i (Order place y) → Ordered made → ⊥
   order_shown place y (h, rs, r, c, fy, n) o =
-      let d = completes_same w i ((i - read) - 1) place p.head h p.records rs made r completes c in
+      let d = completes_same w i ((i - this.read) - 1) place p.head h p.records rs made r completes c in
       n (subst Ordered d.records o)
 
-  count_shown : (place y : ℕ) → Shows rows w i (Count place y) → HasRow rows p.head p.records q → ⊥
+  count_shown : (place y : ℕ) → Shows rows w i (Count place y) → HasRow rows p.head p.records this.sort → ⊥
   unfolding made
   count_shown place y (h, rs, r, c, fy, n) o =
-      let d = completes_same w i ((i - read) - 1) place p.head h p.records rs made r completes c in
-      n (subst (λ (b : Record). HasRow rows h rs b.sort) d.records (subst (λ (k : List ℕ). HasRow rows k rs q) d.heads (subst (λ (k : List Record). HasRow rows p.head k q) d.befores o)))
+      let d = completes_same w i ((i - this.read) - 1) place p.head h p.records rs made r completes c in
+      n (subst (λ (b : Record). HasRow rows h rs b.sort) d.records (subst (λ (k : List ℕ). HasRow rows k rs this.sort) d.heads (subst (λ (k : List Record). HasRow rows p.head k this.sort) d.befores o)))
 
-  row_of : Rowed rows counts w q → HasRow rows p.head p.records q
-  row_of = rowed_row w p.head ((i - read) - 1) p.records completes.whole rows counts q p.tally
+  row_of : Rowed rows counts w this.sort → HasRow rows p.head p.records this.sort
+  row_of = rowed_row w p.head ((i - this.read) - 1) p.records completes.whole rows counts this.sort p.tally
 
-  of_row : HasRow rows p.head p.records q → Rowed rows counts w q
-  of_row = row_rowed w p.head ((i - read) - 1) p.records completes.whole rows counts q p.tally
+  of_row : HasRow rows p.head p.records this.sort → Rowed rows counts w this.sort
+  of_row = row_rowed w p.head ((i - this.read) - 1) p.records completes.whole rows counts this.sort p.tally
 
-  ordered_made : InOrder q (amounts_read w i read) → Ordered made
+  ordered_made : InOrder this.sort (amounts_read w i this.read) → Ordered made
   unfolding made
-  ordered_made o = subst (InOrder q) closed_amounts o
+  ordered_made o = subst (InOrder this.sort) closed_amounts o
 
-  ordered_read : Ordered made → InOrder q (amounts_read w i read)
+  ordered_read : Ordered made → InOrder this.sort (amounts_read w i this.read)
   unfolding made
-  ordered_read o = subst (InOrder q) (sym closed_amounts) o
+  ordered_read o = subst (InOrder this.sort) (sym closed_amounts) o
 
-  refused_order : (InOrder q (amounts_read w i read) → ⊥) → RefusedCase rows w (Order ((i - read) - 1) first)
+  refused_order : (InOrder this.sort (amounts_read w i this.read) → ⊥) → RefusedCase rows w (Order ((i - this.read) - 1) this.first)
   unfolding made
   refused_order n =
       record {
@@ -442,7 +437,7 @@ module _ (rows w : List ℕ) (i : ℕ) (s s' : State) (counts : List ℕ) (p : P
       least (Order c d) u k = omega arith
       least (Count c d) u k = omega arith
 
-  refused_count : InOrder q (amounts_read w i read) → (Rowed rows counts w q → ⊥) → RefusedCase rows w (Count ((i - read) - 1) first)
+  refused_count : InOrder this.sort (amounts_read w i this.read) → (Rowed rows counts w this.sort → ⊥) → RefusedCase rows w (Count ((i - this.read) - 1) this.first)
   unfolding made
   refused_count o n =
       record {
@@ -456,26 +451,26 @@ module _ (rows w : List ℕ) (i : ℕ) (s s' : State) (counts : List ℕ) (p : P
       least (Order c d) u k = order_shown c d u (ordered_made o)
       least (Count c d) u k = omega arith
 
-  pub refused_closed : (f : RecordFault) → Unsound q (amounts_read w i read) (Rowed rows counts w q) ((i - read) - 1) first f → RefusedCase rows w f
+  pub refused_closed : (f : RecordFault) → Unsound this.sort (amounts_read w i this.read) (Rowed rows counts w this.sort) ((i - this.read) - 1) this.first f → RefusedCase rows w f
   refused_closed (Word f) u = absurd u
   refused_closed (Order place y) (n, a, b) =
-      subst (λ (k : ℕ). RefusedCase rows w (Order k y)) (sym a) (subst (λ (z : ℕ). RefusedCase rows w (Order ((i - read) - 1) z)) (sym b) (refused_order n))
+      subst (λ (k : ℕ). RefusedCase rows w (Order k y)) (sym a) (subst (λ (z : ℕ). RefusedCase rows w (Order ((i - this.read) - 1) z)) (sym b) (refused_order n))
   refused_closed (Count place y) (o, n, a, b) =
-      subst (λ (k : ℕ). RefusedCase rows w (Count k y)) (sym a) (subst (λ (z : ℕ). RefusedCase rows w (Count ((i - read) - 1) z)) (sym b) (refused_count o n))
+      subst (λ (k : ℕ). RefusedCase rows w (Count k y)) (sym a) (subst (λ (z : ℕ). RefusedCase rows w (Count ((i - this.read) - 1) z)) (sym b) (refused_count o n))
 
-  pub progress_closed : (counts' : List ℕ) → InOrder q (amounts_read w i read) → Rowed rows counts w q → counts' ≡ set counts (rank q) (get_or counts (rank q) 0 + 1) → Progress rows w (i + 1) s' counts'
+  pub progress_closed : (counts' : List ℕ) → InOrder this.sort (amounts_read w i this.read) → Rowed rows counts w this.sort → counts' ≡ set counts (rank this.sort) (get_or counts (rank this.sort) 0 + 1) → Progress rows w (i + 1) s' counts'
   unfolding made
   progress_closed counts' o r c =
-      let b = rank-small q in
+      let b = rank-small this.sort in
       let rs : List Record = p.records ++ (made ∷ []) in
       record {
         head = p.head;
         records = rs;
         got = after_read;
         ordered = All-push Ordered p.records made p.ordered (ordered_made o);
-        tally = subst (λ (cs : List ℕ). Tally cs rs) (sym c) (tally_push counts (rank q) p.four b p.records made refl p.tally);
-        four = ap length c ∙ length-set counts (rank q) (get_or counts (rank q) 0 + 1) ∙ p.four;
-        fitting = subst (λ (cs : List ℕ). (k : ℕ) → k < 4 → get_or cs k 0 ≤ get_or rows k 0) (sym c) (fitting_push counts (rank q) p.four b rows r.1 p.fitting);
+        tally = subst (λ (cs : List ℕ). Tallied cs rs) (sym c) (tally_push counts (rank this.sort) p.four b p.records made refl p.tally);
+        four = ap length c ∙ length-set counts (rank this.sort) (get_or counts (rank this.sort) 0 + 1) ∙ p.four;
+        fitting = subst (λ (cs : List ℕ). (k : ℕ) → k < 4 → get_or cs k 0 ≤ get_or rows k 0) (sym c) (fitting_push counts (rank this.sort) p.four b rows r.1 p.fitting);
         met = λ d. absurd (next-done a (sym then ∙ d));
         quiet = quiet_more rows w i p.quiet quiet_closed;
       }

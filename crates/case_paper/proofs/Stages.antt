@@ -15,20 +15,20 @@ use Rattle.word.proofs.Words.{word_at}
 use Rattle.word.proofs.Fillings.{end_known}
 use Rattle.case_paper.specs.Case.{head_slots, head_amounts, FirstWord, amounts_of, Record, record_words, end_word, Formed}
 use Rattle.case_paper.specs.CaseFault.{Whole, Inside}
-use Rattle.case_paper.specs.State.{after_sort, next, Takes, Good}
-use Rattle.case_paper.specs.declared.sort.Sort.{Sort}
+use Rattle.case_paper.specs.State.{after_sort, read_more, next, Takes, Good}
+use Rattle.case_paper.specs.declared.state.Open.{Open}
 use Rattle.case_paper.specs.declared.state.State.{State}
 use Rattle.case_paper.specs.declared.state.State.TheVariants.{Head, Counts, Next, Amounts, Done}
 use Rattle.case_paper.proofs.States.{end_or_not, next-end, next-record, next-count, next-counted, next_more, next_last}
 use Rattle.case_paper.proofs.Cases.{stands_head, stands_amount, due_kind, head_kind}
 
-pub record Part (q : Sort) (first read : ℕ) (p h : List ℕ) (rs : List Record) : Type 0 where
+pub record Part (o : Open) (p h : List ℕ) (rs : List Record) : Type 0 where
   pub before : List ℕ
   pub part : List ℕ
-  pub words : p ≡ before ++ (first ∷ part)
+  pub words : p ≡ before ++ (o.first ∷ part)
   pub whole : Whole before h rs
-  pub matches : Matches (take read (amounts_of q)) part
-  pub long : length part ≡ read
+  pub matches : Matches (take o.read (amounts_of o.sort)) part
+  pub long : length part ≡ o.read
 
 -- the words p are the records rs and the end word
 pub record Ends (p h : List ℕ) (rs : List Record) : Type 0 where
@@ -41,42 +41,42 @@ abbrev pub Stage : State → List ℕ → List ℕ → List Record → Type 0
 Stage Head p h rs = (p ≡ []) × (rs ≡ [])
 Stage (Counts read) p h rs = Matches (take (suc read) head_slots) p × (length p ≡ suc read) × (rs ≡ [])
 Stage (Next place) p h rs = Whole p h rs
-Stage (Amounts q first read) p h rs = Part q first read p h rs
+Stage (Amounts o) p h rs = Part o p h rs
 Stage Done p h rs = Ends p h rs
 
-part_more : (q : Sort) (first read x : ℕ) (p h : List ℕ) (rs : List Record) → read < length (amounts_of q) → Fits (get_or (amounts_of q) read slot.End) x → Part q first read p h rs → Part q first (read + 1) (p ++ (x ∷ [])) h rs
-part_more q first read x p h rs l f t =
+part_more : (o : Open) (x : ℕ) (p h : List ℕ) (rs : List Record) → o.read < length (amounts_of o.sort) → Fits (get_or (amounts_of o.sort) o.read slot.End) x → Part o p h rs → Part (read_more o) (p ++ (x ∷ [])) h rs
+part_more o x p h rs l f t =
     record {
       before = t.before;
       part = t.part ++ (x ∷ []);
-      words = ap (λ (l : List ℕ). l ++ (x ∷ [])) t.words ∙ append_assoc t.before (first ∷ t.part) (x ∷ []);
+      words = ap (λ (l : List ℕ). l ++ (x ∷ [])) t.words ∙ append_assoc t.before (o.first ∷ t.part) (x ∷ []);
       whole = t.whole;
-      matches = subst (λ (ss : List Slot). Matches ss (t.part ++ (x ∷ []))) (sym (take_more (amounts_of q) read slot.End l))
-          (matches_join (take read (amounts_of q)) (get_or (amounts_of q) read slot.End ∷ []) t.part (x ∷ []) t.matches (f, tt));
+      matches = subst (λ (ss : List Slot). Matches ss (t.part ++ (x ∷ []))) (sym (take_more (amounts_of o.sort) o.read slot.End l))
+          (matches_join (take o.read (amounts_of o.sort)) (get_or (amounts_of o.sort) o.read slot.End ∷ []) t.part (x ∷ []) t.matches (f, tt));
       long = length-append t.part (x ∷ []) ∙ ap (λ (n : ℕ). n + 1) t.long;
     }
 
 -- the record that a part makes, once it has all its amounts
-abbrev pub record_of : (q : Sort) (first read : ℕ) (p h : List ℕ) (rs : List Record) → Part q first read p h rs → Record
-record_of q first read p h rs t = record { sort = q; first = first; amounts = t.part }
+abbrev pub record_of : (o : Open) (p h : List ℕ) (rs : List Record) → Part o p h rs → Record
+record_of o p h rs t = record { sort = o.sort; first = o.first; amounts = t.part }
 
-pub part_formed : (q : Sort) (first read : ℕ) (p h : List ℕ) (rs : List Record) → FirstWord q first → length (amounts_of q) ≤ read → (t : Part q first read p h rs) → Formed (record_of q first read p h rs t)
-part_formed q first read p h rs o l t = (o, subst (λ (ss : List Slot). Matches ss t.part) (take_all read (amounts_of q) l) t.matches)
+pub part_formed : (o : Open) (p h : List ℕ) (rs : List Record) → FirstWord o.sort o.first → length (amounts_of o.sort) ≤ o.read → (t : Part o p h rs) → Formed (record_of o p h rs t)
+part_formed o p h rs f l t = (f, subst (λ (ss : List Slot). Matches ss t.part) (take_all o.read (amounts_of o.sort) l) t.matches)
 
-pub part_whole : (q : Sort) (first read : ℕ) (p h : List ℕ) (rs : List Record) → FirstWord q first → length (amounts_of q) ≤ read → (t : Part q first read p h rs) → Whole p h (rs ++ (record_of q first read p h rs t ∷ []))
-part_whole q first read p h rs o l t =
-    let r : Record = record_of q first read p h rs t in
+pub part_whole : (o : Open) (p h : List ℕ) (rs : List Record) → FirstWord o.sort o.first → length (amounts_of o.sort) ≤ o.read → (t : Part o p h rs) → Whole p h (rs ++ (record_of o p h rs t ∷ []))
+part_whole o p h rs f l t =
+    let r : Record = record_of o p h rs t in
     let w = t.whole in
     record {
-      words = t.words ∙ ap (λ (l : List ℕ). l ++ (first ∷ t.part)) w.words ∙ flat_map_more record_words h rs r;
+      words = t.words ∙ ap (λ (l : List ℕ). l ++ (o.first ∷ t.part)) w.words ∙ flat_map_more record_words h rs r;
       headed = w.headed;
-      formed = All-push Formed rs r w.formed (part_formed q first read p h rs o l t);
+      formed = All-push Formed rs r w.formed (part_formed o p h rs f l t);
     }
 
 -- the part with the next amount
-pub amount_more : (q : Sort) (first read x : ℕ) (p h : List ℕ) (rs : List Record) → Good (Amounts q first read) → Takes (Amounts q first read) x → Part q first read p h rs → Part q first (read + 1) (p ++ (x ∷ [])) h rs
-amount_more q first read x p h rs g t a =
-    part_more q first read x p h rs g.1 (stands_amount x t.0 ∙ sym (due_kind q read g.1), t.1) a
+pub amount_more : (o : Open) (x : ℕ) (p h : List ℕ) (rs : List Record) → Good (Amounts o) → Takes (Amounts o) x → Part o p h rs → Part (read_more o) (p ++ (x ∷ [])) h rs
+amount_more o x p h rs g t a =
+    part_more o x p h rs g.1 (stands_amount x t.0 ∙ sym (due_kind o.sort o.read g.1), t.1) a
 
 -- one amount of the head more
 count_more : (read x : ℕ) (p : List ℕ) → read < 5 → Takes (Counts read) x → Matches (take (suc read) head_slots) p → Matches (take (suc (read + 1)) head_slots) (p ++ (x ∷ []))
@@ -98,7 +98,7 @@ pub record StageAt (s : State) (p : List ℕ) (rs : List Record) : Type 0 where
   pub head : List ℕ
   pub stage : Stage s p head rs
 
-pub stage_same : (s : State) (x : ℕ) (p h : List ℕ) (rs : List Record) → Good s → Takes s x → Stage s p h rs → ((q : Sort) (first read : ℕ) (a : Place) → s ≡ Amounts q first read → next s x ≡ Next a → ⊥) → StageAt (next s x) (p ++ (x ∷ [])) rs
+pub stage_same : (s : State) (x : ℕ) (p h : List ℕ) (rs : List Record) → Good s → Takes s x → Stage s p h rs → ((o : Open) (a : Place) → s ≡ Amounts o → next s x ≡ Next a → ⊥) → StageAt (next s x) (p ++ (x ∷ [])) rs
 stage_same Head x p h rs g t e open-yet =
     record { head = h; stage = (subst (λ (l : List ℕ). Matches (take 1 head_slots) (l ++ (x ∷ []))) (sym e.0) ((stands_head x t.0, t.1), tt), ap (λ (l : List ℕ). length (l ++ (x ∷ []))) e.0, e.1) }
 stage_same (Counts read) x p h rs g t e open-yet =
@@ -122,21 +122,21 @@ stage_same (Next a) x p h rs g t w open-yet =
             (record { before = p; part = []; words = refl; whole = w; matches = tt; long = refl });
       }
     ]
-stage_same (Amounts q first read) x p h rs g t a open-yet =
-    elim (cases_lt (read + 1) (length (amounts_of q))) [
-      | inl l ↦ record { head = h; stage = subst (λ (s : State). Stage s (p ++ (x ∷ [])) h rs) (sym (next_more q first read x l)) (amount_more q first read x p h rs g t a) }
-      | inr l ↦ absurd (open-yet q first read (after_sort q) refl (next_last q first read x l))
+stage_same (Amounts o) x p h rs g t a open-yet =
+    elim (cases_lt (o.read + 1) (length (amounts_of o.sort))) [
+      | inl l ↦ record { head = h; stage = subst (λ (s : State). Stage s (p ++ (x ∷ [])) h rs) (sym (next_more o x l)) (amount_more o x p h rs g t a) }
+      | inr l ↦ absurd (open-yet o (after_sort o.sort) refl (next_last o x l))
     ]
 stage_same Done x p h rs g t e open-yet = absurd t.1
 
 -- the record that is open, at its state
-pub stage_inside : (q : Sort) (first read : ℕ) (p h : List ℕ) (rs : List Record) → Good (Amounts q first read) → Part q first read p h rs → Inside p first
-stage_inside q first read p h rs g a =
+pub stage_inside : (o : Open) (p h : List ℕ) (rs : List Record) → Good (Amounts o) → Part o p h rs → Inside p o.first
+stage_inside o p h rs g a =
     record {
       before = a.before;
       head = h;
       records = rs;
-      sort = q;
+      sort = o.sort;
       part = a.part;
       words = a.words;
       whole = a.whole;

@@ -8,9 +8,10 @@ use Rattle.word.specs.declared.kind.Kind.TheVariants as kind
 use Rattle.word.specs.declared.place.Place.{Place}
 use Rattle.word.specs.declared.place.Place.TheVariants as place
 use Rattle.case_paper.specs.Case.{sort_at, sort_of, FirstWord, amounts_of, sort_kind}
-use Rattle.case_paper.specs.State.{after_sort, begun, next, Takes, Good, AtRecord}
+use Rattle.case_paper.specs.State.{after_sort, opened, read_more, begun, next, Takes, Good, AtRecord}
 use Rattle.case_paper.specs.declared.sort.Sort.{Sort}
 use Rattle.case_paper.specs.declared.sort.Sort.TheVariants.{Bus, Stepped, Curved, Branch}
+use Rattle.case_paper.specs.declared.state.Open.{Open}
 use Rattle.case_paper.specs.declared.state.State.{State}
 use Rattle.case_paper.specs.declared.state.State.TheVariants.{Head, Counts, Next, Amounts, Done}
 
@@ -56,7 +57,7 @@ end_or_not kind.End = inl refl
 pub next-end : (p : Place) (x : ℕ) → kind_of x ≡ kind.End → next (Next p) x ≡ Done
 next-end p x e = ap (λ (k : Kind). begun k x) e
 
-begun-record : (k : Kind) (x : ℕ) → (k ≡ kind.End → ⊥) → begun k x ≡ Amounts (sort_of x) x 0
+begun-record : (k : Kind) (x : ℕ) → (k ≡ kind.End → ⊥) → begun k x ≡ Amounts (opened (sort_of x) x)
 begun-record kind.Unknown x n = refl
 begun-record kind.Head x n = refl
 begun-record kind.Bus x n = refl
@@ -66,7 +67,7 @@ begun-record kind.Branch x n = refl
 begun-record kind.Amount x n = refl
 begun-record kind.End x n = absurd (n refl)
 
-pub next-record : (p : Place) (x : ℕ) → (kind_of x ≡ kind.End → ⊥) → next (Next p) x ≡ Amounts (sort_of x) x 0
+pub next-record : (p : Place) (x : ℕ) → (kind_of x ≡ kind.End → ⊥) → next (Next p) x ≡ Amounts (opened (sort_of x) x)
 next-record p x n = begun-record (kind_of x) x n
 
 pub next-count : (read x : ℕ) → read + 1 < 5 → next (Counts read) x ≡ Counts (read + 1)
@@ -75,11 +76,11 @@ next-count read x h = cond-true (ltb (read + 1) 5) (Counts (read + 1)) (Next pla
 pub next-counted : (read x : ℕ) → 5 ≤ read + 1 → next (Counts read) x ≡ Next place.Buses
 next-counted read x h = cond-false (ltb (read + 1) 5) (Counts (read + 1)) (Next place.Buses) (le-ltb (read + 1) 5 h)
 
-pub next_more : (s : Sort) (first read x : ℕ) → read + 1 < length (amounts_of s) → next (Amounts s first read) x ≡ Amounts s first (read + 1)
-next_more s first read x h = cond-true (ltb (read + 1) (length (amounts_of s))) (Amounts s first (read + 1)) (Next (after_sort s)) (lt-ltb (read + 1) (length (amounts_of s)) h)
+pub next_more : (o : Open) (x : ℕ) → o.read + 1 < length (amounts_of o.sort) → next (Amounts o) x ≡ Amounts (read_more o)
+next_more o x h = cond-true (ltb (o.read + 1) (length (amounts_of o.sort))) (Amounts (read_more o)) (Next (after_sort o.sort)) (lt-ltb (o.read + 1) (length (amounts_of o.sort)) h)
 
-pub next_last : (s : Sort) (first read x : ℕ) → length (amounts_of s) ≤ read + 1 → next (Amounts s first read) x ≡ Next (after_sort s)
-next_last s first read x h = cond-false (ltb (read + 1) (length (amounts_of s))) (Amounts s first (read + 1)) (Next (after_sort s)) (le-ltb (read + 1) (length (amounts_of s)) h)
+pub next_last : (o : Open) (x : ℕ) → length (amounts_of o.sort) ≤ o.read + 1 → next (Amounts o) x ≡ Next (after_sort o.sort)
+next_last o x h = cond-false (ltb (o.read + 1) (length (amounts_of o.sort))) (Amounts (read_more o)) (Next (after_sort o.sort)) (le-ltb (o.read + 1) (length (amounts_of o.sort)) h)
 
 pub after-record : (s : Sort) → AtRecord (after_sort s)
 after-record Bus = tt
@@ -105,9 +106,9 @@ good_next (Next p) x g t =
       | inl e ↦ subst (λ (z : State). Good z) (sym (next-end p x e)) tt
       | inr n ↦ subst (λ (z : State). Good z) (sym (next-record p x n)) (t.1.1 n, amounts_some (sort_of x) x (t.1.1 n))
     ]
-good_next (Amounts s first read) x g t =
-    elim (cases_lt (read + 1) (length (amounts_of s))) [
-      | inl h ↦ subst (λ (z : State). Good z) (sym (next_more s first read x h)) (g.0, h)
-      | inr h ↦ subst (λ (z : State). Good z) (sym (next_last s first read x h)) (after-record s)
+good_next (Amounts o) x g t =
+    elim (cases_lt (o.read + 1) (length (amounts_of o.sort))) [
+      | inl h ↦ subst (λ (z : State). Good z) (sym (next_more o x h)) (g.0, h)
+      | inr h ↦ subst (λ (z : State). Good z) (sym (next_last o x h)) (after-record o.sort)
     ]
 good_next Done x g t = tt

@@ -13,9 +13,9 @@ use Rattle.word.specs.declared.fault.WordRefusal.TheVariants as refusal
 use Rattle.case_paper.specs.Case.{sort_of, FirstWord, amounts_of, head_amounts}
 use Rattle.case_paper.specs.declared.sort.Sort.{Sort}
 use Rattle.case_paper.specs.declared.sort.Sort.TheVariants.{Bus, Stepped, Curved, Branch}
+use Rattle.case_paper.specs.declared.state.Open.{Open}
 use Rattle.case_paper.specs.declared.state.State.{State}
 use Rattle.case_paper.specs.declared.state.State.TheVariants.{Head, Counts, Next, Amounts, Done}
-use Rattle.case_paper.specs.declared.case.Closed.{Closed}
 
 -- the place after a record
 abbrev pub after_sort : Sort → Place
@@ -28,7 +28,7 @@ abbrev pub state_place : State → Place
 state_place Head = place.Head
 state_place (Counts read) = place.Amount
 state_place (Next p) = p
-state_place (Amounts sort first read) = place.Amount
+state_place (Amounts o) = place.Amount
 state_place Done = place.End
 
 -- the first word of the open record, if one is open
@@ -36,7 +36,7 @@ abbrev pub open_first : State → Option ℕ
 open_first Head = None
 open_first (Counts read) = None
 open_first (Next p) = None
-open_first (Amounts sort first read) = Some first
+open_first (Amounts o) = Some o.first
 open_first Done = None
 
 -- the word is in range
@@ -44,26 +44,34 @@ abbrev pub Ranges : State → ℕ → Type 0
 Ranges Head x = payload_of x ≡ 1
 Ranges (Counts read) x = InRange (slice_index_or head_amounts read slot.End) x
 Ranges (Next p) x = (kind_of x ≡ kind.End → payload_of x ≡ 0) × ((kind_of x ≢ kind.End) → FirstWord (sort_of x) x)
-Ranges (Amounts sort first read) x = InRange (slice_index_or (amounts_of sort) read slot.End) x
+Ranges (Amounts o) x = InRange (slice_index_or (amounts_of o.sort) o.read slot.End) x
 Ranges Done x = ⊥
+
+-- a record of this sort and first word, before its first amount
+abbrev pub opened : Sort → ℕ → Open
+opened q x = record { sort = q; first = x; read = 0 }
+
+-- with one amount more
+abbrev pub read_more : Open → Open
+read_more o = record o { read = o.read + 1 }
 
 -- a record begins, or the end word stands
 abbrev pub begun : Kind → ℕ → State
-begun kind.Unknown x = Amounts (sort_of x) x 0
-begun kind.Head x = Amounts (sort_of x) x 0
-begun kind.Bus x = Amounts (sort_of x) x 0
-begun kind.Stepped x = Amounts (sort_of x) x 0
-begun kind.Curved x = Amounts (sort_of x) x 0
-begun kind.Branch x = Amounts (sort_of x) x 0
-begun kind.Amount x = Amounts (sort_of x) x 0
+begun kind.Unknown x = Amounts (opened (sort_of x) x)
+begun kind.Head x = Amounts (opened (sort_of x) x)
+begun kind.Bus x = Amounts (opened (sort_of x) x)
+begun kind.Stepped x = Amounts (opened (sort_of x) x)
+begun kind.Curved x = Amounts (opened (sort_of x) x)
+begun kind.Branch x = Amounts (opened (sort_of x) x)
+begun kind.Amount x = Amounts (opened (sort_of x) x)
 begun kind.End x = Done
 
 abbrev pub next : State → ℕ → State
 next Head x = Counts 0
 next (Counts read) x = cond (nat_lt (read + 1) 5) (Counts (read + 1)) (Next place.Buses)
 next (Next p) x = begun (kind_of x) x
-next (Amounts sort first read) x =
-    cond (nat_lt (read + 1) (length (amounts_of sort))) (Amounts sort first (read + 1)) (Next (after_sort sort))
+next (Amounts o) x =
+    cond (nat_lt (o.read + 1) (length (amounts_of o.sort))) (Amounts (read_more o)) (Next (after_sort o.sort))
 next Done x = Done
 
 -- a word that the reader takes, and one that it refuses
@@ -93,10 +101,10 @@ abbrev pub Good : State → Type 0
 Good Head = Unit {0}
 Good (Counts read) = read < 5
 Good (Next p) = AtRecord p
-Good (Amounts sort first read) = FirstWord sort first × (read < length (amounts_of sort))
+Good (Amounts o) = FirstWord o.sort o.first × (o.read < length (amounts_of o.sort))
 Good Done = Unit {0}
 
 -- whether a step from one state to another completes a record, and which
-abbrev pub Closes : State → State → Option Closed → Type 0
-Closes s t None = (q : Sort) (first read : ℕ) (p : Place) → s ≡ Amounts q first read → t ≢ Next p
-Closes s t (Some v) = (s ≡ Amounts v.sort v.first v.read) × ((p : Place) × (t ≡ Next p))
+abbrev pub Closes : State → State → Option Open → Type 0
+Closes s t None = (o : Open) (p : Place) → s ≡ Amounts o → t ≢ Next p
+Closes s t (Some o) = (s ≡ Amounts o) × ((p : Place) × (t ≡ Next p))

@@ -1,84 +1,36 @@
 // The reader of a case.
-ghost use Rattle.std.specs.Prelude.{◌≡◌, ℕ, ◌+◌, ◌-◌, ◌<◌, ◌≤◌, length, None, MatchResult, slice_index, slice_set};
+ghost use Rattle.std.specs.Prelude.{◌≡◌, None, MatchResult};
 ghost use Rattle.word.specs.declared.fault.WordRefusal.TheVariants.{Kind as KindRefusal};
-ghost use Rattle.case_paper.specs.Case.{rank, amounts_of};
-ghost use Rattle.case_paper.specs.Order.{InOrder};
-ghost use Rattle.case_paper.specs.Complete.{amounts_read, Rowed, Counted, Ending, Unsound};
+ghost use Rattle.case_paper.specs.Complete.{Counted, Ending};
 ghost use Rattle.case_paper.specs.CaseFault.{LawfulCase, RefusedCase, RefusedRead};
 ghost use Rattle.case_paper.specs.State.{Closes};
 
-use crate::count::{counts_met, has_row};
+use crate::count::Tally;
 use crate::fault::*;
-use crate::order::in_order;
-use crate::sort::Sort;
-use crate::state::State;
+use crate::state::{Open, State};
 use word::fault::{WordFault, WordRefusal};
 use word::kind::{Kind, kind_of};
 
-// A record that a word completes: its sort, its first word, and the amounts before that word. Words and counts are passed beside it, not in it:
-// the words stand, and the counts rise.
-#[derive(Clone, Copy)]
-pub struct Closed {
-    pub sort: Sort,
-    pub first: u32,
-    pub read: usize,
-}
-
-fn closed_by(was: State, is: State) -> Option<Closed>
+// The record that a word completes, with the amounts read before that word.
+fn closed_by(was: State, is: State) -> Option<Open>
     ensures { Closes was is result }
 {
     match (was, is) {
-        (State::Amounts(sort, first, read), State::Next(_)) => Some(Closed { sort, first, read }),
+        (State::Amounts(open), State::Next(_)) => Some(open),
         _ => None,
     }
 }
 
 // An end word stands only where the head's counts are met.
-fn end_in_time(
-    state: State,
-    place: usize,
-    word: u32,
-    words: &[u32],
-    counts: &[usize; 4],
-) -> Result<(), WordFault>
-    ensures { MatchResult result (λ _. Ending state word → Counted counts.now words.now) (λ f. Ending state word × (Counted counts.now words.now → ⊥) × (f.refusal ≡ KindRefusal) × (f.place ≡ place) × (f.first ≡ None)) }
+fn end_in_time(tally: &Tally<'_>, state: State, place: usize, word: u32) -> Result<(), WordFault>
+    ensures { MatchResult result (λ _. Ending state word → Counted tally.now.counts tally.now.words.now) (λ f. Ending state word × (Counted tally.now.counts tally.now.words.now → ⊥) × (f.refusal ≡ KindRefusal) × (f.place ≡ place) × (f.first ≡ None)) }
 {
     match (state, kind_of(word)) {
-        (State::Next(_), Kind::End) if !counts_met(words, counts) => {
+        (State::Next(_), Kind::End) if !tally.is_met() => {
             Err(WordFault::at(WordRefusal::Kind, place))
         }
         _ => Ok(()),
     }
-}
-
-// The record whose last amount stands at `place` is in order, and takes a row of its sort; or it is refused and takes none.
-fn complete(
-    closed: Closed,
-    place: usize,
-    words: &[u32],
-    rows: &[usize; 4],
-    counts: &mut [usize; 4],
-) -> Result<(), RecordFault>
-    requires { (place < length words.now) × ((closed.read + 1 ≤ place) × (length (amounts_of closed.sort) ≡ closed.read + 1)) }
-    ensures { MatchResult result (λ _. InOrder closed.sort (amounts_read words.now place closed.read) × Rowed rows.now counts.old words.now closed.sort × (counts.new ≡ slice_set counts.old (rank closed.sort) (slice_index counts.old (rank closed.sort) + 1))) (λ f. Unsound closed.sort (amounts_read words.now place closed.read) (Rowed rows.now counts.old words.now closed.sort) ((place - closed.read) - 1) closed.first f × (counts.new ≡ counts.old)) }
-{
-    let Closed { sort, first, read } = closed;
-    let start = place - read - 1;
-    if !in_order(sort, &words[place - read..=place]) {
-        return Err(RecordFault::Order {
-            place: start,
-            first,
-        });
-    }
-    let rank = sort.rank();
-    if !has_row(words, rank, rows, counts) {
-        return Err(RecordFault::Count {
-            place: start,
-            first,
-        });
-    }
-    counts[rank] += 1;
-    Ok(())
 }
 
 // Whether the words are a lawful case, for tables of so many bus, stepped, curved and branch rows.
@@ -86,14 +38,18 @@ pub fn check_records(words: &[u32], rows: &[usize; 4]) -> Result<(), RecordFault
     ensures { MatchResult result (λ _. LawfulCase rows.now words.now) (λ f. RefusedCase rows.now words.now f) }
 {
     let mut state = State::Head;
-    let mut counts = [0; 4];
+    let mut tally = Tally {
+        words,
+        rows,
+        counts: [0; 4],
+    };
     // The place is part of the fault.
     for (place, word) in words.iter().enumerate() {
         let was = state;
-        end_in_time(state, place, *word, words, &counts)?;
+        end_in_time(&tally, state, place, *word)?;
         state.step(place, *word)?;
         if let Some(closed) = closed_by(was, state) {
-            complete(closed, place, words, rows, &mut counts)?;
+            tally.complete(closed, place)?;
         }
     }
     match state {

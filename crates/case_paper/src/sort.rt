@@ -1,12 +1,17 @@
 // The sorts of record in a case, and what is due in each and in the head.
-ghost use Rattle.std.specs.Prelude.{◌≡◌, Decides};
+ghost use Rattle.std.specs.Prelude.{◌≡◌, ◌≤◌, length, Decides};
 ghost use Rattle.word.specs.Run.{Due};
 ghost use Rattle.case_paper.specs.Case.{amounts_of, head_amounts, FirstWord, sort_of, rank};
 ghost use Rattle.case_paper.specs.State.{after_sort};
 
+use measure::Watts;
+use names::number::may_name;
+use network::branch::Branch;
+use network::size::{BRANCHES, BUSES, MACHINES, TOLERANCE};
 use word::kind::{Kind, kind_of, payload};
 use word::place::Place;
-use word::slot::{Slot, is_branch_name, is_byte};
+use word::range::{MARK, POWER, PRICE};
+use word::slot::{Slot, is_branch_name};
 
 #[derive(Clone, Copy, PartialEq, Eq, Debug)]
 pub enum Sort {
@@ -17,18 +22,13 @@ pub enum Sort {
     Branch,
 }
 
-// Powers and prices, as in `paper`: each reader states the ranges of its own form.
-const POWER: Slot = Slot::Amount(-100_000_000, 100_000_000);
-
-const PRICE: Slot = Slot::Amount(-1_000_000, 1_000_000);
-
 // The tolerance, then how many bus, stepped, curved and branch records follow.
 const HEAD: [Slot; 5] = [
-    Slot::Amount(0, 100_000),
-    Slot::Amount(1, 100),
-    Slot::Amount(0, 30),
-    Slot::Amount(0, 30),
-    Slot::Amount(0, 200),
+    Slot::Amount(0, TOLERANCE),
+    Slot::Amount(1, BUSES as i64),
+    Slot::Amount(0, MACHINES as i64),
+    Slot::Amount(0, MACHINES as i64),
+    Slot::Amount(0, BRANCHES as i64),
 ];
 
 // The limits, the cost at 0 in millions, the slope there, the bend.
@@ -36,12 +36,12 @@ const CURVED: [Slot; 5] = [POWER, POWER, POWER, PRICE, Slot::Amount(1, 500)];
 
 // Susceptance, shift, rating, least and most angle difference, service mark.
 const BRANCH: [Slot; 6] = [
-    Slot::Amount(1, 1_000_000),
-    Slot::Amount(-1_600_000, 1_600_000),
-    Slot::Amount(0, 100_000_000),
-    Slot::Amount(-6_400_000, 6_400_000),
-    Slot::Amount(-6_400_000, 6_400_000),
-    Slot::Amount(0, 1),
+    Slot::Amount(1, Branch::MOST_SUSCEPTANCE),
+    Slot::Amount(-Branch::SHIFT_LIMIT, Branch::SHIFT_LIMIT),
+    Slot::Amount(0, Watts::LIMIT),
+    Slot::Amount(-Branch::DIFFERENCE_LIMIT, Branch::DIFFERENCE_LIMIT),
+    Slot::Amount(-Branch::DIFFERENCE_LIMIT, Branch::DIFFERENCE_LIMIT),
+    MARK,
 ];
 
 // What is due after so many amounts of the head, or nothing where it is complete.
@@ -88,6 +88,19 @@ impl Sort {
         }
     }
 
+    // How many amounts a record of this sort has.
+    pub fn amount_count(self) -> usize
+        requires { length (amounts_of self) ≤ 18 }
+        ensures { result ≡ length (amounts_of self) }
+    {
+        match self {
+            Sort::Bus => 1,
+            Sort::Stepped(n) => 3 + n + n.saturating_sub(1),
+            Sort::Curved => CURVED.len(),
+            Sort::Branch => BRANCH.len(),
+        }
+    }
+
     // What is due after so many amounts of a record, or nothing where it is complete.
     pub fn slot(self, read: usize) -> Option<Slot>
         ensures { Due (amounts_of self) read result }
@@ -120,8 +133,8 @@ pub fn opens_record(word: u32) -> bool
 {
     let p = payload(word);
     match kind_of(word) {
-        Kind::Stepped => (2..=8).contains(&(p / 256)) && is_byte(p % 256),
-        Kind::Bus | Kind::Curved => is_byte(p),
+        Kind::Stepped => (2..=8).contains(&(p / 256)) && may_name(p % 256),
+        Kind::Bus | Kind::Curved => may_name(p),
         Kind::Branch => is_branch_name(p),
         _ => false,
     }

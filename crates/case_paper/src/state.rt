@@ -10,6 +10,14 @@ use word::kind::{Kind, kind_of, payload};
 use word::place::{Place, may_stand};
 use word::slot::Slot;
 
+// A record that is open: its sort, its first word, and how many of its amounts are read.
+#[derive(Clone, Copy)]
+pub struct Open {
+    pub sort: Sort,
+    pub first: u32,
+    pub read: usize,
+}
+
 #[derive(Clone, Copy)]
 pub enum State {
     // the head is due
@@ -18,8 +26,8 @@ pub enum State {
     Counts(usize),
     // a record or the end word is due
     Next(Place),
-    // an amount is due, in a record of this sort and first word, after so many amounts
-    Amounts(Sort, u32, usize),
+    // an amount of this record is due
+    Amounts(Open),
     Done,
 }
 
@@ -36,7 +44,7 @@ impl State {
     {
         match self {
             State::Head => Place::Head,
-            State::Counts(_) | State::Amounts(..) => Place::Amount,
+            State::Counts(_) | State::Amounts(_) => Place::Amount,
             State::Next(p) => p,
             State::Done => Place::End,
         }
@@ -47,7 +55,7 @@ impl State {
         ensures { result ≡ open_first self }
     {
         match self {
-            State::Amounts(_, first, _) => Some(first),
+            State::Amounts(open) => Some(open.first),
             _ => None,
         }
     }
@@ -73,7 +81,7 @@ impl State {
             (State::Counts(read), _) => fills(head_slot(read), word),
             (State::Next(_), Kind::End) => payload(word) == 0,
             (State::Next(_), _) => opens_record(word),
-            (State::Amounts(sort, _, read), _) => fills(sort.slot(read), word),
+            (State::Amounts(open), _) => fills(open.sort.slot(open.read), word),
             (State::Done, _) => false,
         }
     }
@@ -86,20 +94,25 @@ impl State {
         *self = match (*self, kind_of(word)) {
             (State::Head, _) => State::Counts(0),
             (State::Counts(read), _) => {
-                if read + 1 < 5 {
-                    State::Counts(read + 1)
+                let read = read + 1;
+                if head_slot(read).is_some() {
+                    State::Counts(read)
                 } else {
                     State::Next(Place::Buses)
                 }
             }
             (State::Next(_), Kind::End) => State::Done,
-            (State::Next(_), _) => State::Amounts(Sort::of(word), word, 0),
-            (State::Amounts(sort, first, read), _) => {
-                let read = read + 1;
-                if sort.slot(read).is_some() {
-                    State::Amounts(sort, first, read)
+            (State::Next(_), _) => State::Amounts(Open {
+                sort: Sort::of(word),
+                first: word,
+                read: 0,
+            }),
+            (State::Amounts(open), _) => {
+                let read = open.read + 1;
+                if open.sort.slot(read).is_some() {
+                    State::Amounts(Open { read, ..open })
                 } else {
-                    State::Next(sort.place_after())
+                    State::Next(open.sort.place_after())
                 }
             }
             (State::Done, _) => State::Done,

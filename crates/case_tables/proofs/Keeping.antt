@@ -1,9 +1,8 @@
 -- Rows kept one after another.
-use Rattle.std.proofs.Common.{◌≡◌, ℕ, zero, suc, ◌+◌, ◌-◌, ◌<◌, Bool, true, false, cond, eqb, List, [], ◌∷◌, ◌++◌, map, length, set, replicate, ℤ, pos, sym, refl, ap, ◌∙◌, arith}
-use Rattle.std.proofs.lemmas.List.{append_assoc, length_push, length-append, length-replicate, map_push, set-append_right}
-use Rattle.case_paper.specs.Case.{rank, Record, amounts_of, power_slot, price_slot}
+use Rattle.std.proofs.Common.{◌≡◌, ℕ, zero, suc, ◌-◌, ◌<◌, Bool, true, false, cond, eqb, List, [], ◌∷◌, ◌++◌, map, length, set, replicate, ℤ, pos, sym, refl, ap, ◌∙◌, arith}
+use Rattle.std.proofs.lemmas.List.{append_assoc, length_push, map_push, set-append_right}
+use Rattle.case_paper.specs.Case.{rank, Record}
 use Rattle.case_paper.specs.Rows.{of_rank}
-use Rattle.case_paper.specs.declared.sort.Sort.TheVariants as sort
 use Rattle.case_tables.specs.Rows.{padded}
 
 zeros_front : (m : ℕ) (z : ℤ) → 0 < m → set (replicate m (pos 0)) 0 z ≡ z ∷ replicate (m - 1) (pos 0)
@@ -49,11 +48,3 @@ module _ {T : Type 0} (row : Record → T) (k : ℕ) (rs : List Record) (r : Rec
   -- the record is of another sort
   pub rows_other : eqb (rank r.sort) k ≡ false → items ≡ map row (of_rank k (rs ++ (r ∷ [])))
   rows_other e = h ∙ sym (ap (map row) (of_rank_other k rs r e))
-
--- how many amounts a machine with n points has
-pub stepped_size : (n : ℕ) → length (amounts_of (sort.Stepped n)) ≡ 3 + n + (n - 1)
-stepped_size n =
-    let a = length-append (replicate (3 + n) power_slot) (replicate (n - 1) price_slot) in
-    let b = length-replicate (3 + n) power_slot in
-    let d = length-replicate (n - 1) price_slot in
-    omega arith

@@ -33,11 +33,7 @@ pub from_zero : (z : ℤ) → pos 0 ≤ℤ z → pos (nat_abs z) ≡ z
 from_zero (pos n) h = refl
 from_zero (negsuc n) h = absurd (omega (arith, ints))
 
--- ---- a result whose errors are told otherwise: its value, and the error that is told
-pub value_told : {T E F : Type 0} (r : Result T E) (s : Result T F) (R : E → F → Type 0) (x : T) → s ≡ Ok x → MatchResult r (λ y. s ≡ Ok y) (λ e. IsErrAnd s (R e)) → r ≡ Ok x
-value_told (Ok y) s R x e k = cc
-value_told (Err d) s R x e k = absurd (subst (λ v. IsErrAnd v (R d)) e k)
-
+-- ---- a result whose errors are told otherwise: the error that is told
 pub error_told : {T E F : Type 0} (r : Result T E) (s : Result T F) (P : T → Type 0) (Q : E → Type 0) (R : E → F → Type 0) (f : F) → s ≡ Err f → MatchResult r (λ y. s ≡ Ok y) (λ e. IsErrAnd s (R e)) → MatchResult r P Q → (e : E) × (R e f × Q e)
 error_told (Ok y) s P Q R f e k h = absurd (subst (λ v. IsErrAnd v (λ g. g ≡ f)) (sym e ∙ k) refl)
 error_told (Err d) s P Q R f e k h = (d, (subst (λ v. IsErrAnd v (R d)) e k, h))

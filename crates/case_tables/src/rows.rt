@@ -11,15 +11,8 @@ use build::tables::Rows;
 use case_paper::sort::Sort;
 use curved::curved::Curved;
 use measure::Watts;
+use network::size::{BRANCHES, BUSES, MACHINES};
 use stepped::stepped::Stepped;
-
-// These are the most of each that the head of a case may count. `build` has such limits of its own, since its rows may come from no words at all.
-// The most buses.
-const BUSES: usize = 100;
-// The most machines of one kind.
-const MACHINES: usize = 30;
-// The most branches.
-const BRANCHES: usize = 200;
 
 // The rows of a case, with places for the largest.
 #[derive(Drop)]

@@ -1,12 +1,13 @@
 use Rattle.std.proofs.Common.{ℤ, pos, nat_abs, sym, ap, ◌∙◌, subst}
 use Rattle.std.proofs.lemmas.Result.{MatchResult-at_ok, MatchResult-at_err, IfOk-at_ok, err_from_is_err_and}
+use Rattle.measure.proofs.Results.{value_told}
 use Rattle.stepped.specs.Piecewise.{stepped_meaning}
 use Rattle.curved.specs.Quadratic.{curved_meaning}
 use Rattle.build.specs.Build.{lent, Laid, NotLaid, WellFormed, laid_case}
 use Rattle.case_paper.specs.CaseFault.{LawfulCase}
 use Rattle.case_tables.specs.Read.{tables, laid_in, Reported}
 use Rattle.case_tables.proofs.Ranges.{of_names}
-use Rattle.case_tables.proofs.Reading.{value_told, error_told, not_read, counted_case, offered, first_room, second_room, from_zero, case_read}
+use Rattle.case_tables.proofs.Reading.{error_told, not_read, counted_case, offered, first_room, second_room, from_zero, case_read}
 use Rattle.case_tables.proofs.read.read_case.Goals as goal
 
 pub read_rows-rows-requires : goal.read_rows-rows-requires

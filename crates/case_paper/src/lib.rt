@@ -6,5 +6,6 @@ pub mod count;
 pub mod fault;
 pub mod laws;
 pub mod order;
+pub mod shown;
 pub mod sort;
 pub mod state;

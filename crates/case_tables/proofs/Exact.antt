@@ -9,7 +9,7 @@ use Rattle.curved.specs.declared.curved.Curved.{Curved}
 use Rattle.network.specs.declared.refusal.Refusal.{Refusal}
 use Rattle.network.specs.declared.refusal.Refusal.TheVariants.{Repeated, UnknownBus}
 use Rattle.build.specs.declared.tables.Rows.{Rows}
-use Rattle.build.specs.declared.tables.Room.{Room}
+use Rattle.build.specs.declared.tables.Sizes.{Sizes}
 use Rattle.build.specs.Offer.{BusRepeated, BranchRepeated, Unknown, Accepted, Refused}
 use Rattle.build.specs.Build.{room_of}
 use Rattle.case_paper.specs.Case.{CaseForm}
@@ -58,11 +58,11 @@ module _ (w : List ℕ) (c d : CaseForm w) (o p : Rows Stepped Curved) (f : Offe
         branches = record p.branches { now = r i };
       }
 
-  refused_same : (room : Room) (e : Refusal) → Refused stepped_meaning curved_meaning p room e → Refused stepped_meaning curved_meaning (moved o p) room e
+  refused_same : (room : Sizes ℕ) (e : Refusal) → Refused stepped_meaning curved_meaning p room e → Refused stepped_meaning curved_meaning (moved o p) room e
   refused_same room e = subst (λ (x : Rows Stepped Curved). Refused stepped_meaning curved_meaning x room e) same_rows
 
 -- ---- two outcomes of one offer
-module _ (o q : Rows Stepped Curved) (room : Room) where
+module _ (o q : Rows Stepped Curved) (room : Sizes ℕ) where
   repeated_accepted : (i : ℕ) → Accepted stepped_meaning curved_meaning o room → Refused stepped_meaning curved_meaning (moved o q) room (Repeated i) → ⊥
   repeated_accepted i a (ranges, order, sizes, inl b) = a.names.buses i b.0
   repeated_accepted i a (ranges, order, sizes, inr b) = a.names.branches i b.1.0

@@ -1,5 +1,5 @@
 // What the model says of each paper, in lines.
-use crate::refused::Refused;
+use case_paper::shown::Shown;
 use curved::curved::Curved;
 use judging::judge::judge;
 use measure::Grains;
@@ -25,7 +25,7 @@ fn part<'a>(column: WordColumn<'a>, from: usize, count: usize) -> WordColumn<'a>
 // The case and a paper's words are handed on one by one: the words are others for each paper, so a struct of both would be made for each call.
 
 // The cost of a dispatch paper.
-fn cost_of(case: &Case<Stepped, Curved>, words: &[u32]) -> Result<Grains, Refused> {
+fn cost_of(case: &Case<Stepped, Curved>, words: &[u32]) -> Result<Grains, Shown> {
     let first = case.first.used().len();
     let second = case.second.used().len();
     let angles = usize::from(rows_used(case.buses, case.nb)).saturating_sub(1);
@@ -39,20 +39,29 @@ fn cost_of(case: &Case<Stepped, Curved>, words: &[u32]) -> Result<Grains, Refuse
 }
 
 // The floor of a price paper.
-fn floor_of(case: &Case<Stepped, Curved>, words: &[u32]) -> Result<Grains, Refused> {
+fn floor_of(case: &Case<Stepped, Curved>, words: &[u32]) -> Result<Grains, Shown> {
     let buses = rows_used(case.buses, case.nb);
     let branches = rows_used(case.branches, case.nl);
     let prices = read_prices(words, buses, branches)?;
     Ok(floor(case, &prices)?)
 }
 
-// The figure, or the refusal.
-fn answer(rt: &HostRuntime, what: &str, answer: Result<Grains, Refused>) -> anyhow::Result<()> {
-    match answer {
-        Ok(Grains(figure)) => println!(rt; "{what} {figure}")?,
-        Err(refused) => println!(rt; "{refused}")?,
-    }
+// A refusal. The small harbour's program has words of its own for one.
+pub(crate) fn refused(rt: &HostRuntime, refusal: Shown) -> anyhow::Result<()> {
+    let Shown { number, place } = refusal;
+    println!(rt; "REFUSED {number} {place}")?;
     Ok(())
+}
+
+// The figure, or the refusal.
+fn answer(rt: &HostRuntime, what: &str, answer: Result<Grains, Shown>) -> anyhow::Result<()> {
+    match answer {
+        Ok(Grains(figure)) => {
+            println!(rt; "{what} {figure}")?;
+            Ok(())
+        }
+        Err(refusal) => refused(rt, refusal),
+    }
 }
 
 // Judges one paper; a paper of another call is passed by.

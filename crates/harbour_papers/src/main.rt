@@ -2,11 +2,10 @@
 #![tactic(auto)]
 
 mod judge;
-mod refused;
 
-use crate::judge::judge_papers;
-use crate::refused::Refused;
+use crate::judge::{judge_papers, refused};
 use anyhow::Context;
+use case_paper::shown::Shown;
 use case_tables::read::read_case;
 use case_tables::view::view;
 use curved::curved::Curved;
@@ -37,11 +36,7 @@ fn judge_file(rt: &HostRuntime, words: &[u32]) -> anyhow::Result<()> {
         &mut branches,
     );
     match read {
-        Err(fault) => {
-            let refused = Refused::from(fault);
-            println!(rt; "{refused}")?;
-            Ok(())
-        }
+        Err(fault) => refused(rt, Shown::from(fault)),
         Ok(read) => {
             println!(rt; "CASE")?;
             let case = view(read, &buses, &stepped, &first, &curved, &second, &branches);

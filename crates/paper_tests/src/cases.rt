@@ -6,7 +6,7 @@ use word::fault::*;
 
 const ROWS: [usize; 4] = [100, 30, 30, 200];
 
-fn checked(words: &[u32]) -> Result<(), Refusal> {
+fn checked(words: &[u32]) -> Result<(), Shown> {
     outcome(check_case(words, &ROWS))
 }
 
@@ -310,7 +310,7 @@ fn records_of_cases(rt: HostRuntime) {
     ];
     assert_eq!(rt;
         outcome(check_case(&two, &[1, 0, 0, 0])),
-        Err(Refusal {
+        Err(Shown {
             number: 6,
             place: 8
         })

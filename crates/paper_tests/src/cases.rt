@@ -2,6 +2,7 @@
 use crate::row::*;
 use case_paper::case::check_case;
 use case_paper::fault::*;
+use case_paper::shown::Shown;
 use word::fault::*;
 
 const ROWS: [usize; 4] = [100, 30, 30, 200];

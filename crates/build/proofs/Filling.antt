@@ -22,9 +22,6 @@ stands_set_other (z ∷ zs) (suc i) zero x y ne s = s
 stands_set_other (z ∷ zs) (suc i) (suc j) x y ne s = stands_set_other zs i j x y (λ e. ne (ap suc e)) s
 
 module _ {X Y : Type 0} (R : X → Y → Type 0) (given : List X) (before : List Y) where
-  pub filled_none : Filled R given before before 0
-  filled_none = record { first = λ i x l s. absurd (omega arith); later = refl }
-
   -- one row more
   pub filled_more : (after : List Y) (i : ℕ) (x : X) (y : Y) → i < length after → Stands given i x → R x y → Filled R given before after i → Filled R given before (set after i y) (i + 1)
   filled_more after i x y h s r f = record {
@@ -41,9 +38,6 @@ module _ {X Y : Type 0} (R : X → Y → Type 0) (given : List X) (before : List
         ∙ ap (drop 1) f.later
         ∙ drop-drop 1 i before;
   }
-
-  pub filled_to : (after : List Y) (m n : ℕ) → n ≡ m → Filled R given before after m → Filled R given before after n
-  filled_to after m n e f = subst (Filled R given before after) (sym e) f
 
 -- the same table, said by a weaker relation
 pub filled_as : {X Y : Type 0} (R S : X → Y → Type 0) (given : List X) (before after : List Y) (n : ℕ) → ((x : X) (y : Y) → R x y → S x y) → Filled R given before after n → Filled S given before after n

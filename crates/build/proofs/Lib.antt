@@ -1,5 +1,4 @@
 pub mod Standing
-pub mod Sizes
 pub mod Filling
 pub mod Known
 pub mod Forming

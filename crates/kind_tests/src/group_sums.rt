@@ -19,7 +19,7 @@ fn cost_of_two<M: Machine>(machines: &[M; 2], first: i64, second: i64) -> Result
     total_cost(machines, &Table { values: &powers }).map(|grains| grains.0)
 }
 
-// As `check_costs` of one machine, over another kind of row.
+// Not `check_costs`, which asks one machine for its cost and whether it allows a power: this asks a group for its sum, or the row that fails.
 #[cfg(test)]
 fn check_costs_of_two<M: Machine>(
     rt: &impl Abort,
@@ -42,6 +42,7 @@ fn margin_of_two<M: Machine>(machines: &[M; 2], first: Price, second: Price) -> 
     total_margin(machines, &Table { values: &prices }).0
 }
 
+// Not `check_margins` either: a group's sum, at a price for each machine.
 #[cfg(test)]
 fn check_margins_of_two<M: Machine>(
     rt: &impl Abort,
@@ -50,9 +51,8 @@ fn check_margins_of_two<M: Machine>(
 ) -> Result<(), Fail> {
     for row in table {
         let AtPrices(first, second, expected) = *row;
-        let first = Price::new(first).ok_or_else(|| Fail::new("no price"))?;
-        let second = Price::new(second).ok_or_else(|| Fail::new("no price"))?;
-        assert_eq!(rt; margin_of_two(machines, first, second), expected);
+        let margin = margin_of_two(machines, price(first)?, price(second)?);
+        assert_eq!(rt; margin, expected);
     }
     Ok(())
 }

@@ -13,6 +13,12 @@ pub struct AtPower(pub i64, pub Option<i64>);
 #[derive(Clone, Copy)]
 pub struct AtPrice(pub i64, pub i64);
 
+// The price of that many grains per watt-hour.
+#[cfg(test)]
+pub(crate) fn price(value: i64) -> Result<Price, Fail> {
+    Price::new(value).ok_or_else(|| Fail::new("no price"))
+}
+
 #[cfg(test)]
 pub(crate) fn check_costs<M: Machine>(
     rt: &impl Abort,
@@ -35,9 +41,8 @@ pub(crate) fn check_margins<M: Machine>(
     table: &[AtPrice],
 ) -> Result<(), Fail> {
     for row in table {
-        let AtPrice(price, expected) = *row;
-        let price = Price::new(price).ok_or_else(|| Fail::new("no price"))?;
-        assert_eq!(rt; machine.margin(price).0, expected);
+        let AtPrice(value, expected) = *row;
+        assert_eq!(rt; machine.margin(price(value)?).0, expected);
     }
     Ok(())
 }

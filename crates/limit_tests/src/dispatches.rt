@@ -1,40 +1,28 @@
 // Dispatches one watt or one microradian either side of each limit.
 use crate::setting::*;
-use curved::curved::Curved;
+use build::rows::BranchRow;
 use judging::judge::judge;
 use measure::column::Table;
 use measure::{Microradians, Watts};
-use network::case::Case;
 use network::dispatch::Dispatch;
 use std::process::Abort;
 use std::test::Fail;
-use stepped::stepped::Stepped;
 
 // The power of each machine, the angle of the second bus, and what judging them answers.
 #[derive(Clone, Copy)]
 struct Offer(i64, i64, i64, Answer);
 
-// What judging a dispatch of three tables answers.
-fn judged<'t>(
-    case: &Case<Stepped, Curved>,
-    first: &'t [i64],
-    second: &'t [i64],
-    angles: &'t [i64],
-) -> Answer {
-    let dispatch = Dispatch {
-        first: Table { values: first },
-        second: Table { values: second },
-        angles: Table { values: angles },
-    };
-    Ok(judge(case, &dispatch)?.0)
-}
-
 fn check_offers(rt: &impl Abort, setting: Setting, offers: &[Offer]) -> Result<(), Fail> {
     let tables = setting.tables()?;
     let case = setting.case(&tables);
     for &Offer(first, second, angle, expected) in offers {
+        let dispatch = Dispatch {
+            first: Table { values: &[first] },
+            second: Table { values: &[second] },
+            angles: Table { values: &[angle] },
+        };
         assert_eq!(rt;
-            judged(&case, &[first], &[second], &[angle]),
+            shown(judge(&case, &dispatch)),
             expected,
             "dispatch {first} {second} {angle}"
         );
@@ -111,7 +99,7 @@ fn tolerances(rt: HostRuntime) -> Result<(), Fail> {
 fn ratings(rt: HostRuntime) -> Result<(), Fail> {
     check_offers(
         &rt,
-        PLAIN.with_line(Line {
+        PLAIN.with_line(BranchRow {
             rating: Watts(800),
             ..LINE
         }),
@@ -139,7 +127,7 @@ fn ratings(rt: HostRuntime) -> Result<(), Fail> {
 fn differences(rt: HostRuntime) -> Result<(), Fail> {
     check_offers(
         &rt,
-        PLAIN.with_line(Line {
+        PLAIN.with_line(BranchRow {
             angmin: Microradians(-70),
             angmax: Microradians(50),
             ..LINE
@@ -154,7 +142,7 @@ fn differences(rt: HostRuntime) -> Result<(), Fail> {
     )?;
     check_offers(
         &rt,
-        PLAIN.with_line(Line {
+        PLAIN.with_line(BranchRow {
             angmin: Microradians(0),
             angmax: Microradians(0),
             ..LINE
@@ -167,7 +155,7 @@ fn differences(rt: HostRuntime) -> Result<(), Fail> {
     )?;
     check_offers(
         &rt,
-        PLAIN.with_line(Line {
+        PLAIN.with_line(BranchRow {
             angmin: Microradians(10),
             angmax: Microradians(20),
             ..LINE
@@ -188,7 +176,7 @@ fn differences(rt: HostRuntime) -> Result<(), Fail> {
 fn shifts(rt: HostRuntime) -> Result<(), Fail> {
     check_offers(
         &rt,
-        PLAIN.with_line(Line {
+        PLAIN.with_line(BranchRow {
             shift: Microradians(30),
             rating: Watts(20),
             angmin: Microradians(-70),
@@ -205,7 +193,7 @@ fn shifts(rt: HostRuntime) -> Result<(), Fail> {
     )?;
     check_offers(
         &rt,
-        PLAIN.with_line(Line {
+        PLAIN.with_line(BranchRow {
             susceptance: 3,
             shift: Microradians(-30),
             ..LINE
@@ -224,7 +212,7 @@ fn shifts(rt: HostRuntime) -> Result<(), Fail> {
 fn out_of_service(rt: HostRuntime) -> Result<(), Fail> {
     check_offers(
         &rt,
-        PLAIN.with_line(Line {
+        PLAIN.with_line(BranchRow {
             rating: Watts(1),
             angmin: Microradians(0),
             angmax: Microradians(0),
@@ -271,7 +259,7 @@ fn power_limits(rt: HostRuntime) -> Result<(), Fail> {
             demands: [5_000_000, -3_500_000, 0],
             ..PLAIN
         }
-        .with_line(Line {
+        .with_line(BranchRow {
             service: false,
             ..LINE
         }),
@@ -292,7 +280,7 @@ fn power_limits(rt: HostRuntime) -> Result<(), Fail> {
             demands: [-4_000_000, 4_500_000, 0],
             ..PLAIN
         }
-        .with_line(Line {
+        .with_line(BranchRow {
             service: false,
             ..LINE
         }),
@@ -314,7 +302,7 @@ fn power_limits(rt: HostRuntime) -> Result<(), Fail> {
 fn order_of_refusals(rt: HostRuntime) -> Result<(), Fail> {
     check_offers(
         &rt,
-        PLAIN.with_line(Line {
+        PLAIN.with_line(BranchRow {
             rating: Watts(800),
             angmin: Microradians(-900),
             angmax: Microradians(850),
@@ -338,7 +326,7 @@ fn order_of_refusals(rt: HostRuntime) -> Result<(), Fail> {
     )?;
     check_offers(
         &rt,
-        PLAIN.with_line(Line {
+        PLAIN.with_line(BranchRow {
             rating: Watts(800),
             angmin: Microradians(-700),
             angmax: Microradians(700),
@@ -362,7 +350,7 @@ fn powers_at_every_limit(rt: HostRuntime) -> Result<(), Fail> {
             demands: [100_000_000, -100_000_000, 0],
             ..WIDEST
         }
-        .with_line(Line {
+        .with_line(BranchRow {
             susceptance: 100_000,
             shift: Microradians(1_600_000),
             rating: Watts(100_000_000),
@@ -393,7 +381,7 @@ fn powers_at_every_limit(rt: HostRuntime) -> Result<(), Fail> {
             demands: [-100_000_000, 100_000_000, 0],
             ..WIDEST
         }
-        .with_line(Line {
+        .with_line(BranchRow {
             susceptance: 100_000,
             shift: Microradians(-1_600_000),
             rating: Watts(100_000_000),
@@ -428,7 +416,7 @@ fn flows_at_every_limit(rt: HostRuntime) -> Result<(), Fail> {
             demands: [0, 100_000_000, 0],
             ..WIDEST
         }
-        .with_line(Line {
+        .with_line(BranchRow {
             susceptance: 1_000_000,
             shift: Microradians(1_600_000),
             rating: Watts(100_000_000),
@@ -449,7 +437,7 @@ fn flows_at_every_limit(rt: HostRuntime) -> Result<(), Fail> {
             demands: [0, -100_000_000, 0],
             ..WIDEST
         }
-        .with_line(Line {
+        .with_line(BranchRow {
             susceptance: 1_000_000,
             shift: Microradians(-1_600_000),
             rating: Watts(100_000_000),

@@ -1,14 +1,13 @@
 // Price lists one either side of each limit, and what the floor is made of.
 use crate::setting::*;
-use curved::curved::Curved;
+use build::rows::BranchRow;
 use measure::column::Table;
 use measure::{Microradians, Watts};
-use network::case::Case;
+use names::branch::BranchName;
 use network::prices::Prices;
 use pricing::floor::floor;
 use std::process::Abort;
 use std::test::Fail;
-use stepped::stepped::Stepped;
 
 // The greatest and the least price.
 const HIGH: i64 = 1_000_000;
@@ -24,21 +23,7 @@ struct List<const BUSES: usize, const BRANCHES: usize>(
     Answer,
 );
 
-// What the floor of a price list of three tables is.
-fn floored<'t>(
-    case: &Case<Stepped, Curved>,
-    bus: &'t [i64],
-    congestion: &'t [i64],
-    angle: &'t [i64],
-) -> Answer {
-    let prices = Prices {
-        bus: Table { values: bus },
-        congestion: Table { values: congestion },
-        angle: Table { values: angle },
-    };
-    Ok(floor(case, &prices)?.0)
-}
-
+// As `check_offers` of dispatches; each makes what it asks of its own kind of row.
 fn check_lists<const BUSES: usize, const BRANCHES: usize>(
     rt: &impl Abort,
     setting: Setting,
@@ -47,8 +32,15 @@ fn check_lists<const BUSES: usize, const BRANCHES: usize>(
     let tables = setting.tables()?;
     let case = setting.case(&tables);
     for &List(bus, congestion, angle, expected) in lists {
+        let prices = Prices {
+            bus: Table { values: &bus },
+            congestion: Table {
+                values: &congestion,
+            },
+            angle: Table { values: &angle },
+        };
         assert_eq!(rt;
-            floored(&case, &bus, &congestion, &angle),
+            shown(floor(&case, &prices)),
             expected,
             "prices {bus:?} {congestion:?} {angle:?}"
         );
@@ -83,7 +75,7 @@ fn bus_prices(rt: HostRuntime) -> Result<(), Fail> {
 fn branch_prices(rt: HostRuntime) -> Result<(), Fail> {
     check_lists(
         &rt,
-        PLAIN.with_line(Line {
+        PLAIN.with_line(BranchRow {
             rating: Watts(800),
             ..LINE
         }),
@@ -121,7 +113,7 @@ fn unrated(rt: HostRuntime) -> Result<(), Fail> {
     )?;
     check_lists(
         &rt,
-        PLAIN.with_line(Line {
+        PLAIN.with_line(BranchRow {
             rating: Watts(1),
             ..LINE
         }),
@@ -138,7 +130,7 @@ fn unrated(rt: HostRuntime) -> Result<(), Fail> {
 fn idle_branches(rt: HostRuntime) -> Result<(), Fail> {
     check_lists(
         &rt,
-        PLAIN.with_line(Line {
+        PLAIN.with_line(BranchRow {
             susceptance: 10,
             shift: Microradians(30),
             angmin: Microradians(5),
@@ -157,7 +149,7 @@ fn idle_branches(rt: HostRuntime) -> Result<(), Fail> {
     )?;
     check_lists(
         &rt,
-        PLAIN.with_line(Line {
+        PLAIN.with_line(BranchRow {
             susceptance: 1_000_000,
             shift: Microradians(30),
             rating: Watts(800),
@@ -173,7 +165,7 @@ fn idle_branches(rt: HostRuntime) -> Result<(), Fail> {
         &rt,
         PLAIN.with_two_lines(
             LINE,
-            Line {
+            BranchRow {
                 susceptance: 10,
                 shift: Microradians(7),
                 service: false,
@@ -217,12 +209,12 @@ fn weights_in_balance(rt: HostRuntime) -> Result<(), Fail> {
     check_lists(
         &rt,
         PLAIN.with_two_lines(
-            Line {
+            BranchRow {
                 susceptance: 10_000,
                 rating: Watts(800),
                 ..LINE
             },
-            Line {
+            BranchRow {
                 susceptance: 10_000,
                 rating: Watts(800),
                 ..LINE
@@ -247,7 +239,7 @@ fn weights(rt: HostRuntime) -> Result<(), Fail> {
         &rt,
         PLAIN.with_two_lines(
             LINE,
-            Line {
+            BranchRow {
                 susceptance: 3_541,
                 rating: Watts(800),
                 ..LINE
@@ -264,7 +256,7 @@ fn weights(rt: HostRuntime) -> Result<(), Fail> {
         &rt,
         PLAIN.with_two_lines(
             LINE,
-            Line {
+            BranchRow {
                 susceptance: 5_000,
                 rating: Watts(800),
                 ..LINE
@@ -284,7 +276,7 @@ fn weights(rt: HostRuntime) -> Result<(), Fail> {
 fn residues(rt: HostRuntime) -> Result<(), Fail> {
     check_lists(
         &rt,
-        PLAIN.with_line(Line {
+        PLAIN.with_line(BranchRow {
             susceptance: 1_000,
             ..LINE
         }),
@@ -302,7 +294,7 @@ fn residues(rt: HostRuntime) -> Result<(), Fail> {
     )?;
     check_lists(
         &rt,
-        PLAIN.with_line(Line {
+        PLAIN.with_line(BranchRow {
             susceptance: 1_000,
             service: false,
             ..LINE
@@ -322,12 +314,12 @@ fn residues_of_three_buses(rt: HostRuntime) -> Result<(), Fail> {
             ..PLAIN
         }
         .with_two_lines(
-            Line {
+            BranchRow {
                 susceptance: 500,
                 ..LINE
             },
-            Line {
-                to: 2,
+            BranchRow {
+                name: BranchName { to: 3, ..LINE.name },
                 susceptance: 500,
                 ..LINE
             },
@@ -358,7 +350,7 @@ fn residues_of_three_buses(rt: HostRuntime) -> Result<(), Fail> {
 fn angle_charges(rt: HostRuntime) -> Result<(), Fail> {
     check_lists(
         &rt,
-        PLAIN.with_line(Line {
+        PLAIN.with_line(BranchRow {
             angmin: Microradians(-70),
             angmax: Microradians(50),
             ..LINE
@@ -373,7 +365,7 @@ fn angle_charges(rt: HostRuntime) -> Result<(), Fail> {
     )?;
     check_lists(
         &rt,
-        PLAIN.with_line(Line {
+        PLAIN.with_line(BranchRow {
             angmin: Microradians(10),
             angmax: Microradians(20),
             ..LINE
@@ -385,7 +377,7 @@ fn angle_charges(rt: HostRuntime) -> Result<(), Fail> {
     )?;
     check_lists(
         &rt,
-        PLAIN.with_line(Line {
+        PLAIN.with_line(BranchRow {
             angmin: Microradians(-20),
             angmax: Microradians(-10),
             ..LINE
@@ -402,7 +394,7 @@ fn angle_charges(rt: HostRuntime) -> Result<(), Fail> {
 fn shift_and_congestion_charges(rt: HostRuntime) -> Result<(), Fail> {
     check_lists(
         &rt,
-        PLAIN.with_line(Line {
+        PLAIN.with_line(BranchRow {
             susceptance: 10,
             shift: Microradians(30),
             rating: Watts(800),
@@ -420,7 +412,7 @@ fn shift_and_congestion_charges(rt: HostRuntime) -> Result<(), Fail> {
     )?;
     check_lists(
         &rt,
-        PLAIN.with_line(Line {
+        PLAIN.with_line(BranchRow {
             susceptance: 10,
             shift: Microradians(-1_600_000),
             rating: Watts(100_000_000),
@@ -475,13 +467,13 @@ fn floors_at_every_limit(rt: HostRuntime) -> Result<(), Fail> {
             ..WIDEST
         }
         .with_two_lines(
-            Line {
+            BranchRow {
                 susceptance: 10_000,
                 shift: Microradians(1_600_000),
                 rating: Watts(100_000_000),
                 ..LINE
             },
-            Line {
+            BranchRow {
                 susceptance: 9_200,
                 shift: Microradians(-1_600_000),
                 rating: Watts(100_000_000),
@@ -516,13 +508,13 @@ fn floors_at_every_limit(rt: HostRuntime) -> Result<(), Fail> {
             ..WIDEST
         }
         .with_two_lines(
-            Line {
+            BranchRow {
                 susceptance: 10_000,
                 shift: Microradians(-1_600_000),
                 rating: Watts(100_000_000),
                 ..LINE
             },
-            Line {
+            BranchRow {
                 susceptance: 9_200,
                 shift: Microradians(1_600_000),
                 rating: Watts(100_000_000),

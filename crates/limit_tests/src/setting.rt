@@ -1,7 +1,7 @@
 // A case of two or three buses, with a stepped machine at the first and a curved one at the second, and of one or two branches that leave the first.
 use build::rows::{BranchRow, BusRow};
 use curved::curved::Curved;
-use measure::{Microradians, Watts};
+use measure::{Grains, Microradians, Watts};
 use names::branch::BranchName;
 use network::branch::{Branch, Ends};
 use network::bus::Bus;
@@ -10,7 +10,7 @@ use network::refusal::Refusal;
 use std::test::Fail;
 use stepped::stepped::Stepped;
 
-// A refusal, by its number and the row where it stands.
+// A refusal, by its number and the row where it stands, as it is shown: a table of the enum's own values would leave these numbers untested.
 #[derive(Clone, Copy, PartialEq, Eq, Debug, Drop)]
 pub struct Refused(pub u8, pub usize);
 
@@ -23,19 +23,13 @@ impl From<Refusal> for Refused {
 // What judging a dispatch or the floor of a price list answers: grains, or a refusal.
 pub type Answer = Result<i64, Refused>;
 
-// The numbers of a branch from the first bus to the bus in row `to`.
-#[derive(Clone, Copy)]
-pub struct Line {
-    pub to: u8,
-    pub susceptance: i64,
-    pub shift: Microradians,
-    pub rating: Watts,
-    pub angmin: Microradians,
-    pub angmax: Microradians,
-    pub service: bool,
+// The answer by its numbers.
+pub(crate) fn shown(answer: Result<Grains, Refusal>) -> Answer {
+    Ok(answer?.0)
 }
 
-// The numbers of a case. It has the first nb of the buses and the first nl of the lines; the rows after them stand in the tables unread.
+// The numbers of a case. It has the first nb of the buses and the first nl of the lines: a case may count fewer rows than its tables have, and
+// the rows after them stand there unread.
 #[derive(Clone, Copy)]
 pub struct Setting {
     pub tolerance: u32,
@@ -43,13 +37,17 @@ pub struct Setting {
     pub nb: u8,
     pub stepped: Stepped,
     pub curved: Curved,
-    pub lines: [Line; 2],
+    pub lines: [BranchRow; 2],
     pub nl: u8,
 }
 
-// One watt for each microradian, no rating, and the widest limits.
-pub const LINE: Line = Line {
-    to: 1,
+// From the first bus to the second, one watt for each microradian, no rating, and the widest limits.
+pub const LINE: BranchRow = BranchRow {
+    name: BranchName {
+        circuit: 1,
+        from: 1,
+        to: 2,
+    },
     susceptance: 1,
     shift: Microradians(0),
     rating: Watts(0),
@@ -107,30 +105,17 @@ pub const WIDEST: Setting = Setting {
     ..PLAIN
 };
 
-impl Line {
-    // The branch of these numbers, where each is in its range.
-    fn branch(&self, circuit: u32) -> Result<Branch, Fail> {
-        let row = BranchRow {
-            name: BranchName {
-                circuit,
-                from: 1,
-                to: u32::from(self.to) + 1,
-            },
-            susceptance: self.susceptance,
-            shift: self.shift,
-            rating: self.rating,
-            angmin: self.angmin,
-            angmax: self.angmax,
-            service: self.service,
-        };
-        let ends = Ends {
-            from: 0,
-            to: self.to,
-        };
-        row.branch(ends)
-            .filter(|branch| branch.ends.to <= 2)
-            .ok_or_else(|| Fail::new("a number of a branch is outside its range"))
-    }
+// The branch of the row as that circuit, where each number is in its range. The buses of the tables are named by their rows, from 1 on.
+fn branch(circuit: u32, row: BranchRow) -> Result<Branch, Fail> {
+    let name = BranchName {
+        circuit,
+        ..row.name
+    };
+    let to = u8::try_from(name.to.saturating_sub(1)).unwrap_or(u8::MAX);
+    BranchRow { name, ..row }
+        .branch(Ends { from: 0, to })
+        .filter(|branch| branch.ends.to <= 2)
+        .ok_or_else(|| Fail::new("a number of a branch is outside its range"))
 }
 
 // The bus of these numbers, where each is in its range.
@@ -156,7 +141,7 @@ pub struct Tables {
 
 impl Setting {
     // The case with that line alone.
-    pub(crate) fn with_line(self, line: Line) -> Setting {
+    pub(crate) fn with_line(self, line: BranchRow) -> Setting {
         Setting {
             lines: [line, LINE],
             nl: 1,
@@ -165,7 +150,7 @@ impl Setting {
     }
 
     // The case with these two lines.
-    pub(crate) fn with_two_lines(self, first: Line, second: Line) -> Setting {
+    pub(crate) fn with_two_lines(self, first: BranchRow, second: BranchRow) -> Setting {
         Setting {
             lines: [first, second],
             nl: 2,
@@ -182,7 +167,7 @@ impl Setting {
             first: [0],
             curved: [self.curved],
             second: [1],
-            branches: [line.branch(1)?, other.branch(2)?],
+            branches: [branch(1, line)?, branch(2, other)?],
         })
     }
 

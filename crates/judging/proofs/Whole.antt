@@ -1,7 +1,7 @@
 -- The quantities of the model at whole numbers: their sizes.
-use Rattle.std.proofs.Common.{◌≡◌, ℕ, zero, suc, ◌-◌, ◌<◌, eqb, ltb, ℤ, ◌-ℤ◌, ◌*ℤ◌, ap, arith, lit<, w64, SFits}
+use Rattle.std.proofs.Common.{ℕ, zero, suc, eqb, ltb, ℤ, ◌-ℤ◌, ◌*ℤ◌, arith, lit<, w64, SFits}
 use Rattle.measure.specs.Range.{Within}
-use Rattle.measure.specs.Rows.{Row, only}
+use Rattle.measure.specs.Rows.{Row}
 use Rattle.measure.proofs.Laws.{lin}
 use Rattle.measure.proofs.Order.{product_within, kept-within, only-within}
 use Rattle.measure.proofs.Sizes.{fits}
@@ -12,14 +12,6 @@ use Rattle.network.specs.declared.branch.Branch.{Branch}
 pub angle_within : (n : ℕ) (θ : ℕ → ℤ) (i : ℕ) → Within 3200000 (angle_of n θ i)
 angle_within n θ zero = omega (arith, lin)
 angle_within n θ (suc i) = only-within 3200000 (ltb (suc i) n) (kept_angle (θ i)) (kept-within 3200000 (θ i))
-
--- the angle at a bus other than the reference
-pub angle-row : (n : ℕ) (θ : ℕ → ℤ) (i : ℕ) → 0 < i → angle_of n θ i ≡ only (ltb i n) (kept_angle (θ (i - 1)))
-angle-row n θ zero h = absurd (omega arith)
-angle-row n θ (suc i) h = ap (λ k. only (ltb (suc i) n) (kept_angle (θ k))) (before i)
-  where
-    before : (i : ℕ) → i ≡ suc i - 1
-    before i = omega arith
 
 pub record CarriedSizes (b δ s : ℤ) : Type 0 where
   pub way : SFits w64 (δ -ℤ s)

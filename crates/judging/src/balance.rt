@@ -24,6 +24,7 @@ pub(crate) struct Injections<'a, 'd, M, C> {
 
 impl<'a, 'd, M, C: Column> Injections<'a, 'd, M, C> {
     // What the machine in that row gives at the bus; 0 past the last row.
+    #[tactic(auto, using(measure::proofs::Sums::row_past))]
     fn given(&self, row: usize, bus: usize) -> i64
         ensures { result ≡ row_value (given_at (λ i. slice_index self.now.machines.places.now i) (C.value self.now.powers.now) bus) self.now.machines.rows.now row }
     {
@@ -87,6 +88,7 @@ impl<'a, 'd, M, N, C: Column> Balance<'a, 'd, M, N, C> {
     }
 
     // Whether the bus in that row is out of balance.
+    #[tactic(auto, using(measure::proofs::Sums::row_past))]
     fn is_unbalanced(&self, row: usize) -> bool
         ensures { result ≡ row_test (unbalanced (case_of self.now.case) (C.value self.now.first.now) (C.value self.now.second.now) (angle_of self.now.angles.buses (C.value self.now.angles.given.now))) self.now.case.buses.now row }
     {

@@ -26,6 +26,7 @@ impl<'a, 'd, C: Column> Flows<'a, 'd, C> {
     }
 
     // What leaves the bus by the branch in that row, less what arrives; 0 past the last row.
+    #[tactic(auto, using(measure::proofs::Sums::row_past))]
     fn outflow_in(&self, row: usize, bus: usize) -> i64
         ensures { result ≡ row_value (outflow_row (angle_of self.now.angles.buses (C.value self.now.angles.given.now)) bus) self.now.branches.now row }
     {

@@ -38,6 +38,7 @@ impl<'a, 'd, C: Column> Flows<'a, 'd, C> {
     }
 
     // Whether the branch in that row does.
+    #[tactic(auto, using(measure::proofs::Sums::row_past))]
     fn is_overloaded(&self, row: usize) -> bool
         ensures { result ≡ row_test (overloaded_row (angle_of self.now.angles.buses (C.value self.now.angles.given.now))) self.now.branches.now row }
     {
@@ -64,6 +65,7 @@ impl<'a, 'd, C: Column> Flows<'a, 'd, C> {
     }
 
     // Whether the branch in that row does.
+    #[tactic(auto, using(measure::proofs::Sums::row_past))]
     fn is_overstretched(&self, row: usize) -> bool
         ensures { result ≡ row_test (overstretched_row (angle_of self.now.angles.buses (C.value self.now.angles.given.now))) self.now.branches.now row }
     {

@@ -1,6 +1,6 @@
-use Rattle.std.proofs.Common.{false, not, pos, neg_ℤ, sym, ap, ◌∙◌}
+use Rattle.std.proofs.Common.{false, not, pos, neg_ℤ, ap, ◌∙◌}
 use Rattle.measure.specs.Range.{between}
-use Rattle.measure.proofs.Sums.{row_got, row_past}
+use Rattle.measure.proofs.Sums.{row_got}
 use Rattle.network.specs.View.{case_of}
 use Rattle.judging.specs.Whole.{angle_of, unbalanced}
 use Rattle.measure.proofs.Sizes.{gave}
@@ -13,6 +13,3 @@ returns g c =
     let E = pos s.case.tolerance in
     row_got false (unbalanced (case_of s.case) (v s.first.now) (v s.second.now) (angle_of s.angles.buses (v s.angles.given.now))) s.case.buses.now c.args.row c.in-Some.bus.now _ c.in-Some.ensures.lookup.3
     (c.is_beyond.ensures ∙ ap (λ z. not (between (neg_ℤ E) E z)) (gave c.mismatch.type_inv c.mismatch.ensures))
-
-pub returns-in_default : goal.returns-in_default
-returns-in_default g c = sym (row_past false _ 0 c.args.self.now.case.buses.now c.args.row c.in_default.ensures.lookup.3)

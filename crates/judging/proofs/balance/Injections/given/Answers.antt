@@ -1,12 +1,9 @@
-use Rattle.std.proofs.Common.{eqb, pos, sym, ap, ◌∙◌, ap₂, w64}
+use Rattle.std.proofs.Common.{eqb, pos, ap, ◌∙◌, ap₂, w64}
 use Rattle.std.proofs.lemmas.Int.{to_z-of_z}
 use Rattle.measure.specs.Rows.{only}
-use Rattle.measure.proofs.Sums.{row_is, row_past}
+use Rattle.measure.proofs.Sums.{row_is}
 use Rattle.judging.specs.Whole.{kept_power}
 use Rattle.judging.proofs.balance.Injections.given.Goals as goal
-
-pub returns-then-row-self : goal.returns-then-row-self
-returns-then-row-self g c = sym (row_past (pos 0) _ 0 c.args.self.now.machines.rows.now c.args.row c.if-row-self.true)
 
 pub returns : goal.returns
 returns g c =

@@ -1,5 +1,5 @@
-use Rattle.std.proofs.Common.{false, sym}
-use Rattle.measure.proofs.Sums.{row_got, row_past}
+use Rattle.std.proofs.Common.{false}
+use Rattle.measure.proofs.Sums.{row_got}
 use Rattle.judging.specs.Whole.{angle_of, overloaded_row}
 use Rattle.judging.proofs.flows.Flows.is_overloaded.Goals as goal
 
@@ -7,6 +7,3 @@ pub returns : goal.returns
 returns g c =
     let s = c.args.self.now in
     row_got false (overloaded_row (angle_of s.angles.buses (g.C.Column.value s.angles.given.now))) s.branches.now c.args.row c.in-Some.branch.now _ c.in-Some.ensures.lookup.3 c.exceeds_rating.ensures
-
-pub returns-in_default : goal.returns-in_default
-returns-in_default g c = sym (row_past false _ 0 c.args.self.now.branches.now c.args.row c.in_default.ensures.lookup.3)

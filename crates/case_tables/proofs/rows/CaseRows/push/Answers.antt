@@ -1,19 +1,8 @@
-use Rattle.std.proofs.Common.{[], ◌∷◌, ◌++◌, ap, ◌∙◌, subst}
-use Rattle.case_paper.specs.Case.{Formed, rank}
-use Rattle.case_paper.specs.declared.sort.Sort.{Sort}
+use Rattle.std.proofs.Common.{[], ◌∷◌, ◌++◌, ap, ◌∙◌}
+use Rattle.case_paper.specs.Case.{rank}
 use Rattle.case_tables.specs.Rows.{record_of}
 use Rattle.case_tables.proofs.Kept.{keeps_bus, keeps_stepped, keeps_curved, keeps_branch}
 use Rattle.case_tables.proofs.rows.CaseRows.push.Goals as goal
-
-pub stepped_row-requires : goal.stepped_row-requires
-stepped_row-requires c =
-    let n = c.in-Stepped.n in
-    let f = subst (λ (q : Sort). Formed (record_of q c.args.words.now.first c.args.words.now.amounts.now)) c.in-Stepped.is c.requires.formed in
-    record {
-      sort = c.in-Stepped.is;
-      few = (f.0.2, f.0.3);
-      said = f.0.1;
-    }
 
 pub returns-in-Bus : goal.returns-in-Bus
 returns-in-Bus c rs h =

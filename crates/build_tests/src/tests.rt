@@ -3,7 +3,6 @@ use build::build::lay;
 use build::rows::{BranchRow, BusRow};
 use build::tables::{Counts, Rows};
 use curved::curved::Curved;
-use machine::machine::Machine;
 use measure::{Microradians, Watts};
 use names::branch::BranchName;
 use network::branch::{Branch, Ends};

@@ -1,7 +1,6 @@
 // What curved machines answer, at and beside their limits, and where the answers are rounded.
 use crate::tables::*;
 use curved::curved::Curved;
-use machine::machine::Machine;
 use measure::Watts;
 use std::test::Fail;
 

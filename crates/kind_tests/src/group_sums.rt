@@ -26,8 +26,7 @@ fn check_costs_of_two<M: Machine>(
     machines: &[M; 2],
     table: &[AtPowers],
 ) -> Result<(), Fail> {
-    for row in table {
-        let AtPowers(first, second, expected) = *row;
+    for &AtPowers(first, second, expected) in table {
         assert_eq!(rt; cost_of_two(machines, first, second), expected);
     }
     Ok(())
@@ -49,8 +48,7 @@ fn check_margins_of_two<M: Machine>(
     machines: &[M; 2],
     table: &[AtPrices],
 ) -> Result<(), Fail> {
-    for row in table {
-        let AtPrices(first, second, expected) = *row;
+    for &AtPrices(first, second, expected) in table {
         let margin = margin_of_two(machines, price(first)?, price(second)?);
         assert_eq!(rt; margin, expected);
     }

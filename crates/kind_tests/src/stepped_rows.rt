@@ -1,6 +1,5 @@
 // What stepped machines answer, at and beside their points and limits.
 use crate::tables::*;
-use machine::machine::Machine;
 use measure::Watts;
 use std::test::Fail;
 use stepped::stepped::Stepped;

@@ -25,8 +25,7 @@ pub(crate) fn check_costs<M: Machine>(
     machine: &M,
     table: &[AtPower],
 ) -> Result<(), Fail> {
-    for row in table {
-        let AtPower(power, expected) = *row;
+    for &AtPower(power, expected) in table {
         let cost = machine.cost(Watts(power)).map(|grains| grains.0);
         assert_eq!(rt; cost, expected);
         assert_eq!(rt; machine.allows(Watts(power)), expected.is_some());
@@ -40,8 +39,7 @@ pub(crate) fn check_margins<M: Machine>(
     machine: &M,
     table: &[AtPrice],
 ) -> Result<(), Fail> {
-    for row in table {
-        let AtPrice(value, expected) = *row;
+    for &AtPrice(value, expected) in table {
         assert_eq!(rt; machine.margin(price(value)?).0, expected);
     }
     Ok(())

@@ -4,7 +4,7 @@ use native.Mathlib.Decide.{dec_lt}
 use Rattle.std.proofs.lemmas.List.{length-take, drop-drop, drop-set-lt}
 use Rattle.std.specs.Option.{IsSome}
 use Rattle.measure.specs.Rows.{Stands, HoldsAt}
-use Rattle.measure.proofs.Sums.{stands_one, stands_below}
+use Rattle.measure.proofs.Sums.{item_at, stands_one, stands_below}
 use Rattle.build.specs.Build.{Filled}
 
 stands_set : {X : Type 0} (xs : List X) (i : ℕ) (y : X) → i < length xs → Stands (set xs i y) i y
@@ -69,12 +69,6 @@ take_stands (suc n) (y ∷ ys) (suc i) x l s = take_stands n ys i x (omega arith
 pub stands_within : {X : Type 0} (n : ℕ) (xs : List X) (i : ℕ) (x : X) → Stands (take n xs) i x → Stands xs i x
 stands_within n xs i x s = (stands_take n xs i x s).1
 
-some_row : {X : Type 0} (xs : List X) (i : ℕ) → i < length xs → (x : X) × Stands xs i x
-unfolding Stands
-some_row [] i h = absurd (omega arith)
-some_row (x ∷ xs) zero h = (x, refl)
-some_row (x ∷ xs) (suc i) h = some_row xs i (omega arith)
-
 module _ {X Y : Type 0} (R : X → Y → Type 0) (given : List X) (before after : List Y) (n : ℕ) (all : n ≡ length given) (f : Filled R given before after n) where
   -- each row that was given is filled
   pub filled_forth : (i : ℕ) (x : X) → Stands given i x → HoldsAt (λ y. R x y.item) (take n after) i
@@ -88,7 +82,7 @@ module _ {X Y : Type 0} (R : X → Y → Type 0) (given : List X) (before after 
   filled_back i y s =
       let t = stands_take n after i y s in
       let l = t.0 in
-      let g = some_row given i (omega arith) in
+      let g = item_at given i (omega arith) in
       let h = f.first i g.0 l g.1 in
       (g.0, g.1, subst (R g.0) (stands_one after i h.item y h.stands t.1) h.holds)
 
@@ -101,6 +95,6 @@ module _ {X Y : Type 0} (R : X → Y → Type 0) (given : List X) (before after 
       reached : (m : ℕ) → m ≡ n → m ≤ length after
       reached zero e = omega arith
       reached (suc m) e =
-          let g = some_row given m (omega arith) in
+          let g = item_at given m (omega arith) in
           let h = f.first m g.0 (omega arith) g.1 in
           stands_below after m h.item h.stands

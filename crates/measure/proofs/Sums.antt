@@ -172,10 +172,6 @@ sum_within m f (suc n) h =
     let l = h n (omega arith) in
     rw suc-mul (omega (arith, lin, k.0, l.0), omega (arith, lin, k.1, l.1))
 
-pub sum_more : (f : ℕ → ℤ) (n : ℕ) → sum_to f (n + 1) ≡ sum_to f n +ℤ f n
-unfolding sum_to
-sum_more f n = ap (sum_to f) (add-one n)
-
 -- ---- the value of a row
 pub row_past : {X Y : Type 0} (y : Y) (f : Row X → Y) (n : ℕ) (xs : List X) (i : ℕ) → length xs ≤ i → row_or y f n xs i ≡ y
 unfolding row_or
@@ -221,12 +217,13 @@ sum_from f k (x ∷ xs) (suc n) = sum_front (row_or (pos 0) f k (x ∷ xs)) n �
 pub sum_rows : {X : Type 0} (f : Row X → ℤ) (xs : List X) (n : ℕ) → sum_to (row_value f xs) n ≡ total f (rows (take n xs))
 sum_rows f xs n = sum_from f 0 xs n
 
-pub sum_same : (f g : ℕ → ℤ) (n : ℕ) → ((i : ℕ) → i < n → f i ≡ g i) → sum_to f n ≡ sum_to g n
-unfolding sum_to
-sum_same f g zero h = refl
-sum_same f g (suc n) h = λ i. sum_same f g n (λ j l. h j (omega arith)) i +ℤ h n (omega arith) i
-
 -- ---- a row by its number
+pub item_at : {X : Type 0} (xs : List X) (i : ℕ) → i < length xs → (x : X) × Stands xs i x
+unfolding Stands
+item_at [] i h = absurd (omega arith)
+item_at (x ∷ xs) zero h = (x, refl)
+item_at (x ∷ xs) (suc i) h = item_at xs i (omega arith)
+
 pub stands_read : {X : Type 0} (xs : List X) (i : ℕ) (x : X) → i < length xs → x ≡ get_or xs i x → Stands xs i x
 unfolding Stands
 stands_read [] i x h e = absurd (omega arith)

@@ -1,16 +1,10 @@
 -- The first row of a table that passes a test is the lowest of which holds what the test decides.
-use Rattle.std.proofs.Common.{◌≡◌, ℕ, zero, suc, ◌+◌, ◌<◌, ◌≤◌, List, [], ◌∷◌, length, Some, None, Option, get_or, refl, sym, ap, ◌∙◌, subst, zero-add, arith}
+use Rattle.std.proofs.Common.{◌≡◌, ℕ, ◌+◌, ◌<◌, ◌≤◌, List, length, Some, None, Option, get_or, sym, ap, ◌∙◌, subst, zero-add, arith}
 use Rattle.std.specs.Option.{MatchOption}
 use Rattle.std.specs.List.{AllWithin, enumerate_from, HoldsAt as ItemAt}
 use Rattle.std.proofs.lemmas.List.FromFn.{length-enumerate_from, get_or-enumerate_from}
 use Rattle.measure.specs.Rows.{HoldsAt, Stands, Lowest}
-use Rattle.measure.proofs.Sums.{holds_below, stands_below, stands-get_or}
-
-item_at : {X : Type 0} (xs : List X) (i : ℕ) → i < length xs → (x : X) × Stands xs i x
-unfolding Stands
-item_at [] i h = absurd (omega arith)
-item_at (x ∷ xs) zero h = (x, refl)
-item_at (x ∷ xs) (suc i) h = item_at xs i (omega arith)
+use Rattle.measure.proofs.Sums.{holds_below, item_at, stands_below, stands-get_or}
 
 module _ {X : Type 0} (P : X → Type 0) (xs : List X) where
   none_below : (n : ℕ) → AllWithin (λ x. P x → ⊥) xs 0 n → (i : ℕ) → i < n → HoldsAt (λ r. P r.item) xs i → ⊥

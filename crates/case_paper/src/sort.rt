@@ -9,9 +9,10 @@ use names::number::may_name;
 use network::branch::Branch;
 use network::size::{BRANCHES, BUSES, MACHINES, TOLERANCE};
 use word::kind::{Kind, kind_of, payload};
+use word::name::branch_name;
 use word::place::Place;
 use word::range::{MARK, POWER, PRICE};
-use word::slot::{Slot, is_branch_name};
+use word::slot::Slot;
 
 #[derive(Clone, Copy, PartialEq, Eq, Debug)]
 pub enum Sort {
@@ -135,7 +136,7 @@ pub fn opens_record(word: u32) -> bool
     match kind_of(word) {
         Kind::Stepped => (2..=8).contains(&(p / 256)) && may_name(p % 256),
         Kind::Bus | Kind::Curved => may_name(p),
-        Kind::Branch => is_branch_name(p),
+        Kind::Branch => branch_name(word).is_in_range(),
         _ => false,
     }
 }

@@ -5,7 +5,7 @@ use Rattle.case_paper.specs.Case.{Record}
 use Rattle.case_paper.specs.Order.{amount_at}
 use Rattle.case_paper.specs.Rows.{of_rank}
 use Rattle.case_paper.specs.declared.sort.Sort.{Sort}
-use Rattle.paper.specs.Name.{branch_of}
+use Rattle.word.specs.Slot.{branch_of}
 use Rattle.names.specs.declared.branch.BranchName.{BranchName}
 use Rattle.build.specs.declared.rows.BusRow.{BusRow}
 use Rattle.build.specs.declared.rows.BranchRow.{BranchRow}

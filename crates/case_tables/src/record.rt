@@ -9,10 +9,10 @@ use build::rows::{BranchRow, BusRow};
 use case_paper::sort::Sort;
 use curved::curved::Curved;
 use measure::{Microradians, Watts};
-use paper::name::branch_name;
 use stepped::stepped::Stepped;
 use word::amount::amount;
 use word::kind::payload;
+use word::name::branch_name;
 
 // The amounts of the words, then zeros. By index, not by `array::from_fn`: that tells of its calls through the states of the closure, and that these keep
 // the same words was not proved.

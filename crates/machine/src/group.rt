@@ -30,9 +30,7 @@ pub fn total_margin<M: Machine, C: Column>(machines: &[M], prices: &C) -> Grains
     let mut total = 0;
     // Machine by machine, as above.
     for (i, machine) in machines.iter().enumerate() {
-        let Some(price) = Price::new(prices.at(i)) else {
-            unreachable()
-        };
+        let price = Price::new(prices.at(i)).unwrap();
         total += machine.margin(price).0;
     }
     Grains(total)

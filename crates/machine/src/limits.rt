@@ -19,8 +19,8 @@ pub struct Power {
     pub ghost ok: { Within 100000000 watts },
 }
 
-// Whether the bus's name and both limits are in range, and the limits are not crossed. Not a method of a type of the three: they stand in raw rows,
-// where any numbers may, and a type for them would be made for this call alone.
+// Whether the bus's name and both limits are in range, and the limits are not crossed. Not a method of a type of the three: they are
+// numbers of a raw row, where any may stand, so that a type of them would hold no range and be a part of the row again.
 pub fn are_in_range(bus: u32, lo: Watts, hi: Watts) -> bool
     ensures { result ≡ limits_in_range bus lo.0 hi.0 }
 {
@@ -30,7 +30,8 @@ pub fn are_in_range(bus: u32, lo: Watts, hi: Watts) -> bool
         & (lo.0 <= hi.0)
 }
 
-// Whether a machine may run at p: from lo to hi where its row is in range, else only at 0 W.
+// Whether a machine may run at p: from lo to hi where its row is in range, else only at 0 W. A test and the row's limits, not the limits as an
+// option: the row holds them whether it is in range or not.
 pub fn allow(is_in_range: bool, lo: Watts, hi: Watts, p: Watts) -> bool
     ensures { Decides result (allowed_if is_in_range (Between lo.0 hi.0) (whole p.0)) }
 {

@@ -1,7 +1,7 @@
 // Columns of whole numbers, read by row: the powers, angles and prices that a table or a paper gives.
 ghost use Rattle.std.specs.Prelude.{◌≡◌, ℕ, ℤ, pos, slice_index_or};
 
-// A trait, not a closure: tables and papers are read by it, and dispatches and price lists hold it by value.
+// A trait, not a closure: a contract speaks of a column's number as of a function of the row, where a closure's answer is a relation.
 pub trait Column {
     // the number in each row
     ghost value: { Self → ℕ → ℤ };

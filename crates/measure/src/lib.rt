@@ -1,4 +1,4 @@
-// The measures, each a type of its own; columns of numbers and of one measure each; limits by row.
+// The measures, each a type of its own; columns of numbers and of one measure each; ranges, and rows by number.
 #![tactic(auto)]
 
 pub mod column;

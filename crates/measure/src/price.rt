@@ -2,6 +2,8 @@
 ghost use Rattle.std.specs.Prelude.{◌≡◌, pos, neg_ℤ, MatchOption};
 ghost use Rattle.measure.specs.Range.{Within, kept};
 
+use crate::range::is_between;
+
 // A price keeps its range, within ±1,000,000.
 #[derive(Clone, Copy, PartialEq, Eq, PartialOrd, Ord, Debug)]
 pub struct Price {
@@ -13,11 +15,11 @@ impl Price {
     // Every price lies within ± this many grains per watt-hour.
     pub const LIMIT: i64 = 1_000_000;
 
-    // The price of that many grains per watt-hour, or none outside the range: no `TryFrom`, for there is one way to fail.
+    // The price of that many grains per watt-hour, or none outside the range. Not `TryFrom`: its error would be a type with one value.
     pub fn new(value: i64) -> Option<Price>
         ensures { MatchOption result (Within 1000000 value → ⊥) (λ q. q.value ≡ value) }
     {
-        if value < -Self::LIMIT || value > Self::LIMIT {
+        if !is_between(-Self::LIMIT, Self::LIMIT, value) {
             return None;
         }
         Some(Price { value })

@@ -3,15 +3,14 @@ ghost use Rattle.std.specs.Prelude.{◌≡◌, not, pos, neg_ℤ};
 ghost use Rattle.measure.specs.Range.{between, kept};
 ghost use Rattle.measure.specs.Rows.{only};
 
-// Whether low ≤ z ≤ high. Not `(low..=high).contains(&z)`: that answers for every range what this answers for one, and each clause here says
-// `between`, which is a test as this is.
+// Whether low ≤ z ≤ high, by the test of which the definitions of limits are made.
 pub fn is_between(low: i64, high: i64, z: i64) -> bool
     ensures { result ≡ between low high z }
 {
-    (low <= z) & (z <= high)
+    (low..=high).contains(&z)
 }
 
-// Whether z lies outside ±limit. A limit of 32 bits, so that its opposite fits: one that needs more is tested by `is_between`.
+// Whether z lies outside ±limit. A limit of 32 bits, so that its opposite fits; one that needs more is tested by `is_between`.
 pub fn is_beyond(limit: u32, z: i64) -> bool
     ensures { result ≡ not (between (neg_ℤ (pos limit)) (pos limit) z) }
 {

@@ -1,4 +1,5 @@
-// The first rows of a table by their numbers: the sum of what each gives, and the lowest that breaks a limit.
+// The first rows of a table: the sum of what each gives, and the lowest that breaks a limit. By their numbers, not over a slice, since what a row
+// gives stands in several columns, and in 8 bits, so that a sum asks only how large each is.
 ghost use Rattle.std.specs.Prelude.{◌≡◌, ℕ, ◌<◌, ℤ};
 ghost use Rattle.measure.specs.Range.{Within};
 ghost use Rattle.measure.specs.Rows.{IsSumOf, IsFirstOf};

@@ -1,6 +1,15 @@
 -- Names: their sameness, and the rows of a table that have a name, repeat one, or have each a name of their own.
-use Rattle.std.specs.Prelude.{◌≡◌, ℕ, ◌<◌, List}
+use Rattle.std.specs.Prelude.{◌≡◌, ℕ, ◌<◌, ◌≤◌, List}
 use Rattle.measure.specs.Rows.{Row, HoldsAt, Stands}
+use Rattle.names.specs.declared.branch.BranchName.{BranchName}
+
+-- a number that may stand in a name
+abbrev pub NameRange : ℕ → Type 0
+NameRange n = (1 ≤ n) × (n ≤ 255)
+
+-- a branch's name whose numbers are all such
+abbrev pub BranchRange : BranchName → Type 0
+BranchRange b = NameRange b.circuit × NameRange b.from × NameRange b.to
 
 -- what a kind of name must prove of its sameness
 pub record Sameness {K : Type 0} (same : K → K → Type 0) : Type 0 where

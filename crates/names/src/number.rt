@@ -1,6 +1,7 @@
 // Single numbers as names, as buses have, and the numbers that may stand in a name.
-ghost use Rattle.std.specs.Prelude.{◌≡◌, ◌≤◌, Decides};
+ghost use Rattle.std.specs.Prelude.{◌≡◌, Decides};
 ghost use Rattle.std.proofs.Common.{rules};
+ghost use Rattle.names.specs.Names.{NameRange};
 
 use crate::name::Name;
 
@@ -17,7 +18,7 @@ impl Name for u32 {
 
 // Whether the number may name a bus or a circuit: 1 to 255.
 pub fn may_name(number: u32) -> bool
-    ensures { Decides result ((1 ≤ number) × (number ≤ 255)) }
+    ensures { Decides result (NameRange number) }
 {
     (1..=255).contains(&number)
 }

@@ -1,10 +1,11 @@
 -- The ranges and orders that every bus and every branch keeps, and below them the ranges within which sums and products stay inside 64 bits.
 use Rattle.std.specs.Prelude.{ℕ, ◌≤◌, ℤ, ◌≤ℤ◌}
 use Rattle.measure.specs.Range.{Within}
+use Rattle.names.specs.Names as names
 
 -- a number in a name: a bus or a circuit
 abbrev pub NameRange : ℕ → Type 0
-NameRange n = (1 ≤ n) × (n ≤ 255)
+NameRange n = names.NameRange n
 
 abbrev pub BusRanges : ℕ → ℤ → Type 0
 BusRanges name demand = NameRange name × Within 100000000 demand

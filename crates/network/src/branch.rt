@@ -56,7 +56,7 @@ impl Branch {
     // Every limit of an angle difference lies within ± this many microradians.
     pub const DIFFERENCE_LIMIT: i64 = 6_400_000;
 
-    // What stands in a row of a lent table before a case is laid there.
+    // What stands in a row of a lent table before a case is laid there. Not its `Default`: it is no branch of a case.
     pub const BLANK: Branch = Branch {
         name: BranchName {
             circuit: 1,

@@ -44,6 +44,22 @@ pub struct Case<'a, M, N> {
     pub nl: u8,
 }
 
+impl<'a, M, N> Case<'a, M, N> {
+    // How many buses it has.
+    pub fn bus_count(&self) -> u8
+        ensures { result ≡ length (take self.now.nb self.now.buses.now) }
+    {
+        rows_used(self.buses, self.nb)
+    }
+
+    // How many branches it has.
+    pub fn branch_count(&self) -> u8
+        ensures { result ≡ length (take self.now.nl self.now.branches.now) }
+    {
+        rows_used(self.branches, self.nl)
+    }
+}
+
 // How many rows the case has of a table: no more than the count, so that 8 bits hold it.
 pub fn rows_used<T>(table: &[T], count: u8) -> u8
     ensures { result ≡ length (take count table.now) }

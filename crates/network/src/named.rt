@@ -1,4 +1,4 @@
-// The names of buses and branches.
+// The names of buses and branches. The body is the same for each, as a trait can't say that a type has such a field.
 use crate::branch::Branch;
 use crate::bus::Bus;
 use names::branch::BranchName;

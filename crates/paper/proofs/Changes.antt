@@ -9,7 +9,8 @@ use Rattle.word.specs.declared.slot.Slot.TheVariants.{Bus, Branch}
 use Rattle.word.proofs.Words.{amount_same}
 use Rattle.word.proofs.Fillings.{head_word, head_fits, end_word-is, end_fits, amount_fits}
 use Rattle.paper.specs.Range.{power_slot, mark_slot}
-use Rattle.paper.specs.Name.{bus_word, branch_word, branch_of}
+use Rattle.paper.specs.Name.{bus_word, branch_word}
+use Rattle.word.specs.Slot.{branch_of}
 use Rattle.paper.specs.Change.{change_slots, change_words, demand_words, DemandForm, mark_number, mark_words, MarkForm}
 use Rattle.paper.proofs.Layouts.{Layout, power_short}
 use Rattle.paper.proofs.Names.{bus_word-payload_of, bus_fits, branch_word-branch_of, branch_named, branch_fits}

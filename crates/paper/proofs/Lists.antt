@@ -21,7 +21,8 @@ use Rattle.word.proofs.Fillings.{head_word, head_fits, end_fits, last_word, run_
 use Rattle.word.proofs.Slots.{matches_join, matches_parts}
 use Rattle.names.specs.declared.branch.BranchName.{BranchName}
 use Rattle.paper.specs.Range.{Priced, price_slot, angle_price_slot}
-use Rattle.paper.specs.Name.{branch_word, branch_of, Named}
+use Rattle.paper.specs.Name.{branch_word, Named}
+use Rattle.word.specs.Slot.{branch_of}
 use Rattle.paper.specs.Prices.{BranchPrices, Prices, pair_words, list_words, prices_words, PairPriced, LawfulPrices, PricesForm, GivesPrices, ReadsPrices, ColumnsFrom}
 use Rattle.paper.specs.Trial.{trial_words, TrialForm, ReadsTrial}
 use Rattle.network.specs.declared.prices.Prices as view

@@ -7,7 +7,8 @@ use Rattle.word.specs.declared.slot.Slot.TheVariants.{Bus, Branch}
 use Rattle.word.proofs.Words.{kind_word, payload_word, word_is}
 use Rattle.word.proofs.Fillings.{bus_known, branch_known}
 use Rattle.names.specs.declared.branch.BranchName.{BranchName}
-use Rattle.paper.specs.Name.{bus_word, branch_word, Named, branch_of}
+use Rattle.paper.specs.Name.{bus_word, branch_word, Named}
+use Rattle.word.specs.Slot.{branch_of}
 
 pub bus_word-payload_of : (x : ℕ) → Fits Bus x → x ≡ bus_word (payload_of x)
 bus_word-payload_of x f = word_is x kind.Bus f.0 bus_known

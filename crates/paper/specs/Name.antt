@@ -18,7 +18,3 @@ pub record Named (b : BranchName) : Type 0 where
   pub circuits : Byte b.circuit
   pub froms : Byte b.from
   pub tos : Byte b.to
-
--- the branch that a word names
-abbrev pub branch_of : ℕ → BranchName
-branch_of x = record { circuit = payload_of x / 65536; from = payload_of x / 256 % 256; to = payload_of x % 256 }

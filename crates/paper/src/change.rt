@@ -5,13 +5,13 @@ ghost use Rattle.word.specs.Head.{head_number};
 ghost use Rattle.word.specs.Slot.{Fits, Matches, Possible};
 ghost use Rattle.paper.specs.Change.{change_slots, change_words, demand_words, LawfulDemand, DemandForm, mark_words, LawfulMark, MarkForm};
 
-use crate::name::branch_name;
 use measure::Watts;
 use names::branch::BranchName;
 use word::amount::amount;
 use word::fault::WordFault;
 use word::head::Head;
 use word::kind::payload;
+use word::name::branch_name;
 use word::range::{MARK, POWER};
 use word::read::admit_all;
 use word::run::Run;

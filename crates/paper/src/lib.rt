@@ -6,7 +6,6 @@ mod columns;
 pub mod dispatch;
 pub mod hand_over;
 pub mod laws;
-pub mod name;
 pub mod prices;
 pub mod trial;
 pub mod write;

@@ -3,13 +3,13 @@ ghost use Rattle.std.specs.Prelude.{◌≡◌, MatchResult};
 ghost use Rattle.word.specs.Fault.{RefusedWord};
 ghost use Rattle.paper.specs.Trial.{TrialForm, ReadsTrial};
 
-use crate::name::branch_name;
 use crate::prices::{branch_run, price_columns};
 use names::branch::BranchName;
 use network::prices::Prices;
 use word::column::WordColumn;
 use word::fault::WordFault;
 use word::head::Head;
+use word::name::branch_name;
 use word::range::PRICE;
 use word::read::admit_all;
 use word::run::Run;

@@ -32,7 +32,7 @@ impl Stepped {
         ensures test { result ≡ in_range self.now }
         ensures cost { result ≡ true → OneCost self.now }
     {
-        if self.n < 2 || self.n > 8 {
+        if !(2..=8).contains(&self.n) {
             return false;
         }
         let points = &self.points[0..self.n];

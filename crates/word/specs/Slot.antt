@@ -6,6 +6,8 @@ use Rattle.word.specs.declared.kind.Kind.TheVariants as kind
 use Rattle.word.specs.declared.slot.Slot.{Slot}
 use Rattle.word.specs.declared.slot.Slot.TheVariants.{Head, Bus, Branch, Amount, End}
 use Rattle.word.specs.declared.place.Place.{Place}
+use Rattle.names.specs.Names as names
+use Rattle.names.specs.declared.branch.BranchName as branch
 use Rattle.word.specs.declared.place.Place.TheVariants as place
 use Rattle.word.specs.declared.fault.WordRefusal.{WordRefusal}
 use Rattle.word.specs.declared.fault.WordRefusal.TheVariants as refusal
@@ -19,11 +21,15 @@ slot_kind End = kind.End
 
 -- a name of one number
 abbrev pub Byte : ℕ → Type 0
-Byte n = (1 ≤ n) × (n ≤ 255)
+Byte n = names.NameRange n
 
 -- a branch's name: its circuit, its from bus and its to bus
 abbrev pub BranchName : ℕ → Type 0
 BranchName n = Byte (n / 65536) × Byte (n / 256 % 256) × Byte (n % 256)
+
+-- the branch that a word names
+abbrev pub branch_of : ℕ → branch.BranchName
+branch_of x = record { circuit = payload_of x / 65536; from = payload_of x / 256 % 256; to = payload_of x % 256 }
 
 -- the payload or amount of the word is in the slot's range
 abbrev pub InRange : Slot → ℕ → Type 0

@@ -21,7 +21,8 @@ impl Head {
         self as u32
     }
 
-    // The head with this payload, if one has it: a match, since no cast leads back from a number, and no `TryFrom`, for there is one way to fail.
+    // The head with this payload, if one has it: a match, since no cast leads back from a number, and no
+    // `TryFrom`, whose error would be a type with one value.
     pub fn of(payload: u32) -> Option<Head>
         ensures { result ≡ head_numbered payload }
     {

@@ -24,7 +24,8 @@ impl Kind {
     }
 }
 
-// The kind by the top four bits: a match, since no cast leads back from a number, and `From` would hold this match for every number.
+// The kind by the top four bits: a match, since no cast leads back from a number; not `From`, for the amount and
+// the payload are parts of the word as well.
 #[tactic(auto, unfolding(crate::specs::Word::kind_of))]
 pub fn kind_of(word: u32) -> Kind
     ensures { result ≡ kind_of word }

@@ -8,6 +8,7 @@ pub mod fault;
 pub mod head;
 pub mod kind;
 pub mod laws;
+pub mod name;
 pub mod place;
 pub mod range;
 pub mod read;

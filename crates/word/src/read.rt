@@ -12,7 +12,7 @@ pub fn admit_all(words: &[u32], runs: &[Run]) -> Result<(), WordFault>
     requires { Possible (slots_of runs.now) }
     ensures { MatchResult result (λ _. Matches (slots_of runs.now) words.now) (λ f. RefusedWord (Matches (slots_of runs.now)) words.now f) }
 {
-    // The place is part of the fault.
+    // By place, which is part of the fault; a loop, whose invariant speaks of the words before the place.
     for (place, word) in words.iter().enumerate() {
         let slot = slot_at(runs, place).ok_or(WordFault::at(WordRefusal::Follows, place))?;
         slot.admit(place, *word)?;

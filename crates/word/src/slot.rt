@@ -1,10 +1,11 @@
 // What is due at one place of a paper.
 ghost use Rattle.std.specs.Prelude.{◌≡◌, Decides, MatchResult, None};
-ghost use Rattle.word.specs.Slot.{slot_place, BranchName, InRange, Fits, Misfits};
+ghost use Rattle.word.specs.Slot.{slot_place, InRange, Fits, Misfits};
 
 use crate::amount::amount;
 use crate::fault::{WordFault, WordRefusal};
 use crate::kind::{kind_of, payload};
+use crate::name::branch_name;
 use crate::place::{Place, may_stand};
 use names::number::may_name;
 
@@ -19,13 +20,6 @@ pub enum Slot {
     // an amount from the first number to the second
     Amount(i64, i64),
     End,
-}
-
-// A branch's name is three: its circuit and its two buses, a byte each.
-pub fn is_branch_name(payload: u32) -> bool
-    ensures { Decides result (BranchName payload) }
-{
-    may_name(payload / 65536) && may_name(payload / 256 % 256) && may_name(payload % 256)
 }
 
 impl Slot {
@@ -49,7 +43,7 @@ impl Slot {
         match self {
             Slot::Head(h) => p == h,
             Slot::Bus => may_name(p),
-            Slot::Branch => is_branch_name(p),
+            Slot::Branch => branch_name(word).is_in_range(),
             Slot::Amount(least, most) => (least..=most).contains(&amount(word)),
             Slot::End => p == 0,
         }

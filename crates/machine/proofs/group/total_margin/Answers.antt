@@ -1,13 +1,14 @@
-use Rattle.std.proofs.Common.{subst, arith, w64, SFits}
+use Rattle.std.proofs.Common.{◌≡◌, subst, arith, w64, SFits, to_z, of_z}
 use borrow.Author.Differences.{ints}
 use Rattle.std.proofs.lemmas.Int.{to_z-of_z}
+use Rattle.std.proofs.lemmas.Option.{MatchOption-at_some}
 use Rattle.measure.specs.Rows.{Row}
 use Rattle.machine.proofs.Totals.{total_more, total_none}
 use Rattle.machine.proofs.group.total_margin.Goals as goal
 
 pub overflow_add-total : goal.overflow_add-total
 overflow_add-total g c =
-    let q = c.in-Some.price in
+    let q = c.unwrap-price.result in
     let r = (g.met.M.Machine.lawful c.index-machines-i.result).margin_range q.value q.ok in
     omega (arith, ints, r, c.loop-i.invariant.1, c.margin-total.ensures, c.loop-i.total-is, c.loop-i-test.true, c.requires.few)
 
@@ -16,9 +17,10 @@ loop-i-preserved g c =
     let M = g.M.Machine.meaning in
     let p = g.C.Column.value c.args.prices.now in
     let m = c.index-machines-i.result in
-    let q = c.in-Some.price in
+    let q = c.unwrap-price.result in
     let f = subst (SFits w64) c.at.ensures (record { sfits = c.at.type_inv }) in
-    let k = simp (to_z-of_z, f, c.at.ensures) at c.in-Some.ensures in
+    let known : q.value ≡ to_z w64 (of_z w64 c.at.result) = MatchOption-at_some _ _ q c.unwrap-price.ensures c.new.ensures in
+    let k = simp (to_z-of_z, f, c.at.ensures) at known in
     let r = (g.met.M.Machine.lawful m).margin_range q.value q.ok in
     let s = total_more c.args.machines.now c.loop-i.i m c.loop-i-test.true c.index-machines-i.is (λ (r : Row _). M.margin r.item (p r.row)) in
     let e = simp k at c.margin-total.ensures in (

@@ -1,9 +1,9 @@
 // Names in the payload of a word.
 ghost use Rattle.std.specs.Prelude.{◌≡◌};
-ghost use Rattle.paper.specs.Name.{branch_of};
+ghost use Rattle.word.specs.Slot.{branch_of};
 
+use crate::kind::payload;
 use names::branch::BranchName;
-use word::kind::payload;
 
 // The branch that a word names: its circuit, and the buses that it leaves and enters.
 pub fn branch_name(word: u32) -> BranchName

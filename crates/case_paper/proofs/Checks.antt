@@ -117,10 +117,6 @@ case_ended p x rest c d =
 pub form_exact : Exact CaseForm
 form_exact = exact CaseForm case_ended
 
--- after a whole case the reader is done
-pub whole-done : (p : List ℕ) → CaseForm p → run Head p ≡ Done
-whole-done p c = machine.split State Takes next Final Head p [] (subst (λ (l : List ℕ). Accepts Head l) (sym (append-nil p)) (case_from p c))
-
 -- a word with which the words still begin a case is not against the form
 pub begins_quiet : (w : List ℕ) (i : ℕ) → i < length w → Begins CaseForm (take (i + 1) w) → (f : WordRefusal) → Refused CaseForm w f i → ⊥
 begins_quiet w i l b Stops r = let e = r.0 in omega arith

@@ -24,7 +24,7 @@ use Rattle.case_paper.specs.declared.sort.Sort.TheVariants.{Bus, Stepped, Curved
 use Rattle.case_paper.specs.declared.state.Open.{Open}
 use Rattle.case_paper.specs.declared.state.State.{State}
 use Rattle.case_paper.specs.declared.state.State.TheVariants.{Head, Counts, Next, Amounts, Done}
-use Rattle.case_paper.proofs.States.{first_kind, first-sort, first-no_end, end_or_not, next-end, next-record, next-count, next-counted, next_more, next_last, good_next}
+use Rattle.case_paper.proofs.States.{first_kind, first-sort, first-no_end, end_or_not, next-end, next-record, next-count, next-counted, next_more, next_last, after-record, good_next}
 
 abbrev pub Final : State → Type 0
 Final s = s ≡ Done
@@ -437,18 +437,12 @@ take_amount o x h f = (kind_amount x (f.0 ∙ due_kind o.sort o.read h), f.1)
 take_count : (read x : ℕ) → read < 5 → Fits (get_or head_amounts read slot.End) x → Takes (Counts read) x
 take_count read x h f = (kind_amount x (f.0 ∙ head_kind read h), f.1)
 
-after-at : (q : Sort) → AtRecord (after_sort q)
-after-at Bus = tt
-after-at (Stepped n) = tt
-after-at Curved = tt
-after-at Branch = tt
-
 live_amounts : (left : ℕ) (o : Open) → o.read + suc left ≡ length (amounts_of o.sort) → Live (Amounts o)
 unfolding Live
 live_amounts zero o e =
     let x = All-get_or Sample (amounts_of o.sort) o.read slot.End (omega arith) (samples o.sort) in
     let t = take_amount o x.0 (omega arith) x.1 in
-    let l = live_next (after_sort o.sort) (after-at o.sort) in
+    let l = live_next (after_sort o.sort) (after-record o.sort) in
     (x.0 ∷ l.0, (t, subst (λ (s : State). Accepts s l.0) (sym (next_last o x.0 (omega arith))) l.1))
 live_amounts (suc left) o e =
     let x = All-get_or Sample (amounts_of o.sort) o.read slot.End (omega arith) (samples o.sort) in

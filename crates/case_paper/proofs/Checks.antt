@@ -1,5 +1,6 @@
 -- The reader of a case after some of its words, and the four ways in which it stops at a word.
-use Rattle.std.proofs.Common.{None, Some, rules, ◌≡◌, ℕ, ◌+◌, ◌<◌, ◌≤◌, true, List, [], ◌∷◌, ◌++◌, length, get_or, take, sym, refl, ap, ◌∙◌, subst, arith}
+use Rattle.std.proofs.Common.{None, ◌≡◌, ℕ, ◌+◌, ◌<◌, ◌≤◌, true, List, [], ◌∷◌, ◌++◌, length, get_or, take, sym, refl, ap, ◌∙◌, subst, arith}
+use Rattle.std.proofs.lemmas.Option.{none-some}
 use Rattle.std.proofs.lemmas.List.{take_more, take_all, append-nil, append_assoc}
 use Rattle.word.specs.Word.{kind_of}
 use Rattle.word.specs.Form.{Begins, Refused, Ended, Exact}
@@ -58,11 +59,8 @@ read_done p s h rs r e =
 pub read_all : (w : List ℕ) (i : ℕ) (h : List ℕ) (rs : List Record) → Read (take i w) Done h rs → length w ≤ i → CaseForm w
 read_all w i h rs r l = subst CaseForm (take_all i w l) (read_done (take i w) Done h rs r refl)
 
-some_none : {x : ℕ} → Some x ≡ None → ⊥
-some_none e = search rules
-
 closed_word : (s : State) (p : List ℕ) → s ≡ run Head p → open_first s ≡ None → OpenWord p (open_first s)
-closed_word s p e z = subst (OpenWord p) (sym z) (λ x i. some_none (sym (inside_open p x i) ∙ ap open_first (sym e) ∙ z))
+closed_word s p e z = subst (OpenWord p) (sym z) (λ x i. none-some x (sym z ∙ ap open_first e ∙ inside_open p x i))
 
 -- the first word of the record that is open
 pub open_word : (s : State) (p h : List ℕ) (rs : List Record) → Read p s h rs → OpenWord p (open_first s)
@@ -116,10 +114,6 @@ case_ended p x rest c d =
 
 pub form_exact : Exact CaseForm
 form_exact = exact CaseForm case_ended
-
--- after a whole case the reader is done
-pub whole-done : (p : List ℕ) → CaseForm p → run Head p ≡ Done
-whole-done p c = machine.split State Takes next Final Head p [] (subst (λ (l : List ℕ). Accepts Head l) (sym (append-nil p)) (case_from p c))
 
 -- a word with which the words still begin a case is not against the form
 pub begins_quiet : (w : List ℕ) (i : ℕ) → i < length w → Begins CaseForm (take (i + 1) w) → (f : WordRefusal) → Refused CaseForm w f i → ⊥

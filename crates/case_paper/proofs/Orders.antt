@@ -1,14 +1,12 @@
 -- The orders of amounts, by what is found of each and the next.
-use Rattle.std.proofs.Common.{◌≡◌, ℕ, ◌+◌, ◌-◌, ◌<◌, Bool, true, false, not, List, length, get_or, take, drop, ℤ, ◌≤ℤ◌, ◌<ℤ◌, Decides, sym, refl, ap, ◌∙◌, subst, arith, rules}
+use Rattle.std.proofs.Common.{◌≡◌, ℕ, ◌+◌, ◌-◌, ◌<◌, Bool, true, false, not, List, length, get_or, take, drop, ℤ, ◌≤ℤ◌, ◌<ℤ◌, Decides, sym, refl, ap, ◌∙◌, subst, arith}
 use Rattle.std.specs.Int.Signed.{lt_z}
 use Rattle.std.specs.List.{IsAllAdjacentAnswer}
+use Rattle.std.proofs.lemmas.Bool.{true≢false}
 use Rattle.std.proofs.lemmas.Int.{ints}
 use Rattle.std.proofs.lemmas.List.{get_or-take, get_or-drop}
 use Rattle.word.specs.Word.{amount_of}
 use Rattle.case_paper.specs.Order.{amount_at}
-
-true_false : true ≡ false → ⊥
-true_false e = search rules
 
 module _ (R : ℤ → ℤ → Type 0) where
   -- each amount and the next stand so
@@ -24,7 +22,7 @@ module _ (R : ℤ → ℤ → Type 0) where
   all_in_turn e tests xs true a =
       ((λ t k h. (tests (get_or xs k 0) (get_or xs (k + 1) 0)).0 (sym (a k 0 h))), λ o. refl)
   all_in_turn e tests xs false (k, h, f) =
-      ((λ t. absurd (true_false (sym t))), λ o. f 0 ∙ (tests (get_or xs k 0) (get_or xs (k + 1) 0)).1 (o k h))
+      ((λ t. absurd (true≢false (sym t))), λ o. f 0 ∙ (tests (get_or xs k 0) (get_or xs (k + 1) 0)).1 (o k h))
 
   -- of a part of the words
   module _ (xs part : List ℕ) (i : ℕ) (same : (k : ℕ) → k < length part → get_or part k 0 ≡ get_or xs (i + k) 0) where

@@ -32,6 +32,9 @@ const HEAD: [Slot; 5] = [
     Slot::Amount(0, BRANCHES as i64),
 ];
 
+// The demand.
+const BUS: [Slot; 1] = [POWER];
+
 // The limits, the cost at 0 in millions, the slope there, the bend.
 const CURVED: [Slot; 5] = [POWER, POWER, POWER, PRICE, Slot::Amount(1, 500)];
 
@@ -95,7 +98,7 @@ impl Sort {
         ensures { result ≡ length (amounts_of self) }
     {
         match self {
-            Sort::Bus => 1,
+            Sort::Bus => BUS.len(),
             Sort::Stepped(n) => 3 + n + n.saturating_sub(1),
             Sort::Curved => CURVED.len(),
             Sort::Branch => BRANCH.len(),
@@ -107,7 +110,7 @@ impl Sort {
         ensures { Due (amounts_of self) read result }
     {
         match self {
-            Sort::Bus => (read == 0).then_some(POWER),
+            Sort::Bus => BUS.get(read).copied(),
             Sort::Stepped(n) => stepped_slot(n, read),
             Sort::Curved => CURVED.get(read).copied(),
             Sort::Branch => BRANCH.get(read).copied(),

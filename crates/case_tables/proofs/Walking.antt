@@ -1,9 +1,9 @@
 -- The walk over the records of a case.
-use Rattle.std.proofs.Common.{◌≡◌, ℕ, ◌+◌, ◌-◌, ◌<◌, ◌≤◌, List, [], ◌∷◌, ◌++◌, length, get_or, take, drop, sym, refl, ap, ◌∙◌, subst, arith}
+use Rattle.std.proofs.Common.{◌≡◌, ℕ, ◌-◌, ◌<◌, ◌≤◌, List, [], ◌∷◌, ◌++◌, length, get_or, take, drop, sym, ap, ◌∙◌, subst, arith}
 use Rattle.std.specs.List.{flat_map, AllByRecursion}
 use Rattle.std.proofs.lemmas.List.{append_assoc, append-nil, length-append, drop_at, take_at, take_rest}
 use Rattle.word.proofs.Slots.{matches_length}
-use Rattle.case_paper.specs.Case.{head_slots, rank, amounts_of, sort_of, Record, record_words, end_word, Formed, CaseForm}
+use Rattle.case_paper.specs.Case.{rank, amounts_of, sort_of, Record, record_words, Formed, CaseForm}
 use Rattle.case_paper.specs.CaseFault.{count_rank}
 use Rattle.case_paper.specs.declared.sort.Sort.{Sort}
 use Rattle.case_paper.specs.declared.sort.Sort.TheVariants as sort
@@ -26,30 +26,6 @@ none_left done [] t e h = subst (Holds t) (sym (append-nil done)) h
 none_left done (r ∷ rs) t e h = absurd (omega arith)
 
 module _ (w : List ℕ) (c : CaseForm w) where
-  after_head : drop 6 w ≡ flat_map record_words c.records ++ end_word
-  after_head = ap (drop 6) c.words ∙ drop_at c.head (flat_map record_words c.records ++ end_word) 6 (matches_length head_slots c.head c.headed)
-
-  -- the words after the head are those of the records, and the end word
-  pub long_enough : length w ≡ 7 + length (flat_map record_words c.records)
-  long_enough =
-      let a : length w ≡ length (c.head ++ (flat_map record_words c.records ++ end_word)) = ap length c.words in
-      let b = length-append c.head (flat_map record_words c.records ++ end_word) in
-      let d = length-append (flat_map record_words c.records) end_word in
-      let e = matches_length head_slots c.head c.headed in
-      omega arith
-
-  -- before the first record
-  pub walked_none : (t : CaseRows) → Holds t [] → Walked w c (take (length w - 1 - 6) (drop 6 w)) t
-  walked_none t h =
-      let a = long_enough in
-      record {
-        done = [];
-        rest = c.records;
-        split = refl;
-        words = ap (take (length w - 1 - 6)) after_head ∙ take_at (flat_map record_words c.records) end_word (length w - 1 - 6) (omega arith);
-        holds = h;
-      }
-
   -- where no word is left all records are done
   pub walked_all : (left : List ℕ) (t : CaseRows) → length left < 1 → Walked w c left t → Holds t c.records
   walked_all left t none v =

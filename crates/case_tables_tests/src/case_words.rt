@@ -1,6 +1,9 @@
 // The words of a case.
+
+// The amount 0. Words are written here as numbers, as the format has them, and not by the functions that are tested.
 const A: u32 = 0x6000_0000;
 
+// The end word.
 const END: u32 = 0x7000_0000;
 
 // The names in a case: its second bus, the buses of its machines, and the payloads of its branches' first words.

@@ -8,7 +8,7 @@ use network::branch::Branch;
 use network::bus::Bus;
 use stepped::stepped::Stepped;
 
-// A refusal's number, and its place.
+// A refusal's number, and its place: a test states what is shown, and an enum's own values would leave its numbers untested.
 #[derive(Clone, Copy, PartialEq, Eq, Debug)]
 struct Refusal {
     number: u32,
@@ -20,12 +20,18 @@ fn refused_at(number: u32, place: usize) -> Option<Refusal> {
     Some(Refusal { number, place })
 }
 
+impl From<CaseFault> for Refusal {
+    fn from(fault: CaseFault) -> Refusal {
+        Refusal {
+            number: fault.number(),
+            place: fault.place(),
+        }
+    }
+}
+
 // The refusal, or none where the case is read.
 fn refusal_of(read: Result<ReadCase, CaseFault>) -> Option<Refusal> {
-    read.err().map(|fault| Refusal {
-        number: fault.number(),
-        place: fault.place(),
-    })
+    read.err().map(Refusal::from)
 }
 
 // What reading the words into tables of three rows is refused for.

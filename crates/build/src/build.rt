@@ -12,8 +12,7 @@ use network::bus::Bus;
 use network::refusal::Refusal;
 
 // Lays what is offered in the lent tables: buses, the row of each machine's bus in both groups, and branches. Every test comes before the
-// first writing, so that a refusal leaves the tables as they were. Four tables, as `view` takes them, not a struct of them: a caller that then
-// views what lies behind its references gets no proof.
+// first writing, so that a refusal leaves the tables as they were. Four tables, as `view` takes them.
 pub fn lay<M: Machine, N: Machine>(
     rows: &Rows<M, N>,
     buses: &mut [Bus],

@@ -52,9 +52,7 @@ impl Ranged for BranchRow {
 
     fn is_in_range(&self) -> bool {
         let (shift, difference) = (Branch::SHIFT_LIMIT, Branch::DIFFERENCE_LIMIT);
-        may_name(self.name.circuit)
-            & may_name(self.name.from)
-            & may_name(self.name.to)
+        self.name.is_in_range()
             & is_between(1, Branch::MOST_SUSCEPTANCE, self.susceptance)
             & is_between(-shift, shift, self.shift.0)
             & is_between(0, Watts::LIMIT, self.rating.0)

@@ -3,7 +3,7 @@ ghost use Rattle.std.specs.Prelude.{◌≡◌, MatchResult};
 ghost use Rattle.network.specs.declared.refusal.Refusal.TheVariants.{Size};
 ghost use Rattle.build.specs.Offer.{SizesKept, Counted};
 
-use crate::tables::{Counts, Room, Rows};
+use crate::tables::{Counts, Room, Rows, Sizes};
 use measure::range::is_between;
 use network::refusal::Refusal;
 use network::size::{BRANCHES, BUSES, MACHINES, TOLERANCE};
@@ -12,12 +12,12 @@ use network::size::{BRANCHES, BUSES, MACHINES, TOLERANCE};
 pub(crate) fn counts<M, N>(rows: &Rows<M, N>, room: &Room) -> Result<Counts, Refusal>
     ensures { MatchResult result (λ n. SizesKept rows.now room.now × Counted rows.now n) (λ e. (e ≡ Size) × (SizesKept rows.now room.now → ⊥)) }
 {
-    let (buses, first, second, branches) = (
-        rows.buses.len(),
-        rows.first.len(),
-        rows.second.len(),
-        rows.branches.len(),
-    );
+    let Sizes {
+        buses,
+        first,
+        second,
+        branches,
+    } = rows.sizes();
     let small = is_between(0, TOLERANCE, rows.tolerance.0)
         & (1..=BUSES).contains(&buses)
         & (first <= MACHINES)
@@ -27,7 +27,7 @@ pub(crate) fn counts<M, N>(rows: &Rows<M, N>, room: &Room) -> Result<Counts, Ref
         & (first <= room.first)
         & (second <= room.second)
         & (branches <= room.branches);
-    // Each number is within 8 bits by the test: `try_from` would give up at a place that is never reached.
+    // Each number is within 8 bits by the test: `try_from` would bring an error that never comes.
     if small & fits {
         Ok(Counts {
             buses: buses as u8,

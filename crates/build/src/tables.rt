@@ -1,4 +1,6 @@
 // The tables that a case is built from, the room in the tables that it is built in, and how many rows of each it has.
+ghost use Rattle.std.specs.Prelude.{◌≡◌, length};
+
 use crate::rows::{BranchRow, BusRow};
 use measure::Watts;
 
@@ -10,6 +12,20 @@ pub struct Rows<'r, M, N> {
     pub first: &'r [M],
     pub second: &'r [N],
     pub branches: &'r [BranchRow],
+}
+
+impl<'r, M, N> Rows<'r, M, N> {
+    // How many rows there are of each.
+    pub(crate) fn sizes(&self) -> Sizes<usize>
+        ensures { result ≡ record { buses = length self.now.buses.now; first = length self.now.first.now; second = length self.now.second.now; branches = length self.now.branches.now } }
+    {
+        Sizes {
+            buses: self.buses.len(),
+            first: self.first.len(),
+            second: self.second.len(),
+            branches: self.branches.len(),
+        }
+    }
 }
 
 // A number for each table of a case.

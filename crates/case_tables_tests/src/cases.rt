@@ -2,40 +2,25 @@
 use crate::case_words::{LAWFUL, Names, paper};
 use build::tables::Counts;
 use case_paper::fault::CaseFault;
+use case_paper::shown::Shown;
 use case_tables::read::{ReadCase, read_case};
 use curved::curved::Curved;
 use network::branch::Branch;
 use network::bus::Bus;
 use stepped::stepped::Stepped;
 
-// A refusal's number, and its place: a test states what is shown, and an enum's own values would leave its numbers untested.
-#[derive(Clone, Copy, PartialEq, Eq, Debug)]
-struct Refusal {
-    number: u32,
-    place: usize,
-}
-
 // A refusal of this number, at this place.
-fn refused_at(number: u32, place: usize) -> Option<Refusal> {
-    Some(Refusal { number, place })
-}
-
-impl From<CaseFault> for Refusal {
-    fn from(fault: CaseFault) -> Refusal {
-        Refusal {
-            number: fault.number(),
-            place: fault.place(),
-        }
-    }
+fn refused_at(number: u32, place: usize) -> Option<Shown> {
+    Some(Shown { number, place })
 }
 
 // The refusal, or none where the case is read.
-fn refusal_of(read: Result<ReadCase, CaseFault>) -> Option<Refusal> {
-    read.err().map(Refusal::from)
+fn refusal_of(read: Result<ReadCase, CaseFault>) -> Option<Shown> {
+    read.err().map(Shown::from)
 }
 
 // What reading the words into tables of three rows is refused for.
-fn refused(words: &[u32]) -> Option<Refusal> {
+fn refused(words: &[u32]) -> Option<Shown> {
     refusal_of(read_case(
         words,
         &mut [Bus::BLANK; 3],

@@ -3,7 +3,7 @@ use case_paper::shown::Shown;
 use curved::curved::Curved;
 use judging::judge::judge;
 use measure::Grains;
-use network::case::{Case, rows_used};
+use network::case::Case;
 use network::dispatch::Dispatch;
 use paper::dispatch::read_dispatch;
 use paper::prices::read_prices;
@@ -13,7 +13,7 @@ use pricing::floor::floor;
 use stepped::stepped::Stepped;
 use word::column::WordColumn;
 
-// So many numbers of a column, from a row on.
+// So many numbers of a column, from a row on, where each word is a row.
 fn part<'a>(column: WordColumn<'a>, from: usize, count: usize) -> WordColumn<'a> {
     WordColumn {
         start: column.start.saturating_add(from),
@@ -28,7 +28,7 @@ fn part<'a>(column: WordColumn<'a>, from: usize, count: usize) -> WordColumn<'a>
 fn cost_of(case: &Case<Stepped, Curved>, words: &[u32]) -> Result<Grains, Shown> {
     let first = case.first.used().len();
     let second = case.second.used().len();
-    let angles = usize::from(rows_used(case.buses, case.nb)).saturating_sub(1);
+    let angles = usize::from(case.bus_count()).saturating_sub(1);
     let paper = read_dispatch(words, first + second, angles)?;
     let dispatch = Dispatch {
         first: part(paper.powers, 0, first),
@@ -40,9 +40,7 @@ fn cost_of(case: &Case<Stepped, Curved>, words: &[u32]) -> Result<Grains, Shown>
 
 // The floor of a price paper.
 fn floor_of(case: &Case<Stepped, Curved>, words: &[u32]) -> Result<Grains, Shown> {
-    let buses = rows_used(case.buses, case.nb);
-    let branches = rows_used(case.branches, case.nl);
-    let prices = read_prices(words, buses, branches)?;
+    let prices = read_prices(words, case.bus_count(), case.branch_count())?;
     Ok(floor(case, &prices)?)
 }
 

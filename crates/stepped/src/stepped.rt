@@ -32,7 +32,8 @@ impl Stepped {
         ensures test { result ≡ in_range self.now }
         ensures cost { result ≡ true → OneCost self.now }
     {
-        if !(2..=8).contains(&self.n) {
+        // Written out: by `contains` it was not proved that the slices below lie within the arrays.
+        if self.n < 2 || self.n > 8 {
             return false;
         }
         let points = &self.points[0..self.n];

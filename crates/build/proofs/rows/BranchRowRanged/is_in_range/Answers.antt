@@ -11,9 +11,8 @@ returns c =
     let rating : Decides c.is_between-3.result ((pos 0 ≤ℤ row.rating.0) × (row.rating.0 ≤ℤ pos 100000000)) = search rules in
     let angmin : Decides c.is_between-4.result (Within 6400000 row.angmin.0) = search rules in
     let angmax : Decides c.is_between-5.result (Within 6400000 row.angmax.0) = search rules in
-    let names = Decides-and _ _ (Decides-and _ _ c.may_name.ensures c.may_name-2.ensures) c.may_name-3.ensures in
-    let flows = Decides-and _ _ (Decides-and _ _ (Decides-and _ _ names susceptance) shift) rating in
+    let flows = Decides-and _ _ (Decides-and _ _ (Decides-and _ _ c.is_in_range.ensures susceptance) shift) rating in
     Decides-like _
-    (λ p. record { circuit = p.0.0.0.0.0.0.0; from = p.0.0.0.0.0.0.1; to = p.0.0.0.0.0.1; susceptance = p.0.0.0.0.1; shift = p.0.0.0.1; rating = p.0.0.1; angmin = p.0.1; angmax = p.1 })
-    (λ k. (((((((k.circuit, k.from), k.to), k.susceptance), k.shift), k.rating), k.angmin), k.angmax))
+    (λ p. record { circuit = p.0.0.0.0.0.0; from = p.0.0.0.0.0.1; to = p.0.0.0.0.0.2; susceptance = p.0.0.0.0.1; shift = p.0.0.0.1; rating = p.0.0.1; angmin = p.0.1; angmax = p.1 })
+    (λ k. ((((((k.circuit, k.from, k.to), k.susceptance), k.shift), k.rating), k.angmin), k.angmax))
     (Decides-and _ _ (Decides-and _ _ flows angmin) angmax)

@@ -5,10 +5,9 @@ use build::tables::{Counts, Rows};
 use curved::curved::Curved;
 use measure::{Microradians, Watts};
 use names::branch::BranchName;
-use network::branch::{Branch, Ends};
+use network::branch::Branch;
 use network::bus::Bus;
 use network::refusal::Refusal;
-use std::test::Fail;
 
 fn bus(name: u32) -> BusRow {
     BusRow {
@@ -46,11 +45,7 @@ fn laid<'x>(
     first: u32,
     second: u32,
     branches: &'x [BranchRow],
-) -> Result<Result<Counts, Refusal>, Fail> {
-    let empty = bus(1).bus().ok_or_else(|| Fail::new("no bus"))?;
-    let line = branch(1, 1, 2)
-        .branch(Ends { from: 0, to: 1 })
-        .ok_or_else(|| Fail::new("no branch"))?;
+) -> Result<Counts, Refusal> {
     let rows = Rows {
         tolerance: Watts(5),
         buses,
@@ -58,17 +53,17 @@ fn laid<'x>(
         second: &[machine(second)],
         branches,
     };
-    Ok(lay(
+    lay(
         &rows,
-        &mut [empty; 3],
+        &mut [Bus::BLANK; 3],
         &mut [0; 3],
         &mut [0; 3],
-        &mut [line; 3],
-    ))
+        &mut [Branch::BLANK; 3],
+    )
 }
 
 #[test]
-fn a_case_is_laid(rt: HostRuntime) -> Result<(), Fail> {
+fn a_case_is_laid(rt: HostRuntime) {
     let counts = Counts {
         buses: 2,
         first: 1,
@@ -76,55 +71,52 @@ fn a_case_is_laid(rt: HostRuntime) -> Result<(), Fail> {
         branches: 2,
     };
     assert_eq!(rt;
-        laid(&[bus(7), bus(4)], 4, 7, &[branch(1, 4, 7), branch(1, 7, 4)])?,
+        laid(&[bus(7), bus(4)], 4, 7, &[branch(1, 4, 7), branch(1, 7, 4)]),
         Ok(counts)
     );
-    Ok(())
 }
 
 #[test]
-fn numbers_are_tested_first(rt: HostRuntime) -> Result<(), Fail> {
+fn numbers_are_tested_first(rt: HostRuntime) {
     let crossed = BranchRow {
         angmin: Microradians(6),
         ..branch(1, 9, 9)
     };
     assert_eq!(rt;
-        laid(&[bus(7), bus(0)], 9, 9, &[crossed])?,
+        laid(&[bus(7), bus(0)], 9, 9, &[crossed]),
         Err(Refusal::OutOfRange(1))
     );
     assert_eq!(rt;
-        laid(&[bus(7), bus(7)], 9, 9, &[crossed])?,
+        laid(&[bus(7), bus(7)], 9, 9, &[crossed]),
         Err(Refusal::Crossed(0))
     );
-    assert_eq!(rt; laid(&[], 9, 9, &[])?, Err(Refusal::Size), "no bus");
+    assert_eq!(rt; laid(&[], 9, 9, &[]), Err(Refusal::Size), "no bus");
     assert_eq!(rt;
-        laid(&[bus(1), bus(2), bus(3), bus(4)], 1, 1, &[])?,
+        laid(&[bus(1), bus(2), bus(3), bus(4)], 1, 1, &[]),
         Err(Refusal::Size),
         "no room"
     );
-    Ok(())
 }
 
 #[test]
-fn names_are_tested_last(rt: HostRuntime) -> Result<(), Fail> {
+fn names_are_tested_last(rt: HostRuntime) {
     let buses = [bus(7), bus(4)];
     assert_eq!(rt;
-        laid(&[bus(7), bus(7)], 9, 9, &[])?,
+        laid(&[bus(7), bus(7)], 9, 9, &[]),
         Err(Refusal::Repeated(1))
     );
     assert_eq!(rt;
-        laid(&buses, 9, 9, &[branch(1, 4, 7), branch(1, 4, 7)])?,
+        laid(&buses, 9, 9, &[branch(1, 4, 7), branch(1, 4, 7)]),
         Err(Refusal::Repeated(1))
     );
-    assert_eq!(rt; laid(&buses, 9, 9, &[])?, Err(Refusal::UnknownBus(0)));
-    assert_eq!(rt; laid(&buses, 4, 9, &[])?, Err(Refusal::UnknownBus(1)));
+    assert_eq!(rt; laid(&buses, 9, 9, &[]), Err(Refusal::UnknownBus(0)));
+    assert_eq!(rt; laid(&buses, 4, 9, &[]), Err(Refusal::UnknownBus(1)));
     assert_eq!(rt;
-        laid(&buses, 4, 7, &[branch(1, 4, 7), branch(1, 4, 9)])?,
+        laid(&buses, 4, 7, &[branch(1, 4, 7), branch(1, 4, 9)]),
         Err(Refusal::UnknownBus(3))
     );
     assert_eq!(rt;
-        laid(&buses, 4, 7, &[branch(1, 4, 4)])?,
+        laid(&buses, 4, 7, &[branch(1, 4, 4)]),
         Err(Refusal::UnknownBus(2))
     );
-    Ok(())
 }

@@ -9,7 +9,7 @@ use pricing::floor::floor;
 use std::process::Abort;
 use std::test::Fail;
 
-// The greatest and the least price.
+// The greatest and the least price, as numbers: by `Price::LIMIT` the lists would move with the limit that they test.
 const HIGH: i64 = 1_000_000;
 
 const LOW: i64 = -1_000_000;
@@ -23,7 +23,8 @@ struct List<const BUSES: usize, const BRANCHES: usize>(
     Answer,
 );
 
-// As `check_offers` of dispatches; each makes what it asks of its own kind of row.
+// Each list has the floor that it states. Not one function with `check_offers`: they share the loop alone, and a closure for the rest would
+// make the prices or the dispatch, its answer, the answer that is due and the message.
 fn check_lists<const BUSES: usize, const BRANCHES: usize>(
     rt: &impl Abort,
     setting: Setting,

@@ -11,6 +11,7 @@ use std::test::Fail;
 use stepped::stepped::Stepped;
 
 // A refusal, by its number and the row where it stands, as it is shown: a table of the enum's own values would leave these numbers untested.
+// Not `case_paper::shown::Shown`: this crate knows no papers.
 #[derive(Clone, Copy, PartialEq, Eq, Debug, Drop)]
 pub struct Refused(pub u8, pub usize);
 
@@ -106,6 +107,7 @@ pub const WIDEST: Setting = Setting {
 };
 
 // The branch of the row as that circuit, where each number is in its range. The buses of the tables are named by their rows, from 1 on.
+// Not by `build::build::lay`: it counts every row that it is offered, and here a line in service stands unread after those that are counted.
 fn branch(circuit: u32, row: BranchRow) -> Result<Branch, Fail> {
     let name = BranchName {
         circuit,

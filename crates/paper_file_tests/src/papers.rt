@@ -22,14 +22,10 @@ fn first_papers(rt: HostRuntime) {
 #[test]
 fn three_papers(rt: HostRuntime) {
     let words = [0x1000_0002, A, END, END, 0x1000_0003, A];
-    let first = paper_len(&words);
-    assert_eq!(rt; first, 3);
-    assert!(rt; first <= words.len());
-    let rest = &words[first..];
-    let second = paper_len(rest);
-    assert_eq!(rt; second, 1);
-    assert!(rt; second <= rest.len());
-    let last = &rest[second..];
+    let (first, rest) = words.split_at(paper_len(&words));
+    assert_eq!(rt; first.len(), 3);
+    let (second, last) = rest.split_at(paper_len(rest));
+    assert_eq!(rt; second.len(), 1);
     assert_eq!(rt; last, [0x1000_0003, A].as_slice());
     assert_eq!(rt; paper_len(last), 2);
 }

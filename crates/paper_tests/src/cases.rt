@@ -5,6 +5,7 @@ use case_paper::fault::*;
 use case_paper::shown::Shown;
 use word::fault::*;
 
+// The most rows of each sort, as numbers: by `network::size` they would move with what is tested.
 const ROWS: [usize; 4] = [100, 30, 30, 200];
 
 fn checked(words: &[u32]) -> Result<(), Shown> {
@@ -71,9 +72,7 @@ fn small_cases(rt: HostRuntime) {
             8,
         ),
     ];
-    for r in table.iter() {
-        assert_eq!(rt; checked(r.words), r.outcome);
-    }
+    check_rows(&rt, &table, checked);
 }
 
 #[test]
@@ -125,9 +124,7 @@ fn ranges_of_cases(rt: HostRuntime) {
             9,
         ),
     ];
-    for r in table.iter() {
-        assert_eq!(rt; checked(r.words), r.outcome);
-    }
+    check_rows(&rt, &table, checked);
 }
 
 #[test]
@@ -293,9 +290,7 @@ fn records_of_cases(rt: HostRuntime) {
             6,
         ),
     ];
-    for r in table.iter() {
-        assert_eq!(rt; checked(r.words), r.outcome);
-    }
+    check_rows(&rt, &table, checked);
     let two = [
         0x1000_0001,
         A,
@@ -319,6 +314,15 @@ fn records_of_cases(rt: HostRuntime) {
     assert_eq!(rt; outcome(check_case(&two, &[2, 0, 0, 0])), Ok(()));
 }
 
+// A case refused for a word, with the first word of the open record.
+fn word_refused(refusal: WordRefusal, place: usize, first: Option<u32>) -> Result<(), CaseFault> {
+    Err(CaseFault::Record(RecordFault::Word(WordFault {
+        refusal,
+        place,
+        first,
+    })))
+}
+
 #[test]
 fn open_words(rt: HostRuntime) {
     let words = [
@@ -332,34 +336,16 @@ fn open_words(rt: HostRuntime) {
         A,
         A + 100_000_001,
     ];
-    assert!(rt;
-        matches!(
-            check_case(&words, &ROWS),
-            Err(CaseFault::Record(RecordFault::Word(WordFault {
-                refusal: WordRefusal::Range,
-                place: 8,
-                first: Some(0x4000_0001)
-            })))
-        )
+    assert_eq!(rt;
+        check_case(&words, &ROWS).map(|_| ()),
+        word_refused(WordRefusal::Range, 8, Some(0x4000_0001))
     );
-    assert!(rt;
-        matches!(
-            check_case(&words[0..8], &ROWS),
-            Err(CaseFault::Record(RecordFault::Word(WordFault {
-                refusal: WordRefusal::Stops,
-                place: 8,
-                first: Some(0x4000_0001)
-            })))
-        )
+    assert_eq!(rt;
+        check_case(&words[0..8], &ROWS).map(|_| ()),
+        word_refused(WordRefusal::Stops, 8, Some(0x4000_0001))
     );
-    assert!(rt;
-        matches!(
-            check_case(&words[0..6], &ROWS),
-            Err(CaseFault::Record(RecordFault::Word(WordFault {
-                refusal: WordRefusal::Stops,
-                place: 6,
-                first: None
-            })))
-        )
+    assert_eq!(rt;
+        check_case(&words[0..6], &ROWS).map(|_| ()),
+        word_refused(WordRefusal::Stops, 6, None)
     );
 }

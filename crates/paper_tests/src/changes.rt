@@ -26,9 +26,7 @@ fn demand_changes(rt: HostRuntime) -> Result<(), Fail> {
         expect(&[0x1000_0004, 0x2000_0001, A, END + 1], 4, 3),
         expect(&[0x1000_0004, 0x2000_0001, A, END, END], 7, 4),
     ];
-    for r in table.iter() {
-        assert_eq!(rt; outcome(read_demand_change(r.words)), r.outcome);
-    }
+    check_rows(&rt, &table, |words| outcome(read_demand_change(words)));
     let change = read_demand_change(&[0x1000_0004, 0x2000_0002, 0x6fff_ffff, END])?;
     assert_eq!(rt; change.bus, 2);
     assert_eq!(rt; change.demand, Watts(-1));
@@ -51,9 +49,7 @@ fn mark_changes(rt: HostRuntime) -> Result<(), Fail> {
         expect(&[0x1000_0005, 0x5001_0203, 0x6fff_ffff, END], 4, 2),
         expect(&[0x1000_0005, 0x5001_0203, A, END, 0], 7, 4),
     ];
-    for r in table.iter() {
-        assert_eq!(rt; outcome(read_mark_change(r.words)), r.outcome);
-    }
+    check_rows(&rt, &table, |words| outcome(read_mark_change(words)));
     let change = read_mark_change(&[0x1000_0005, 0x5001_0203, A + 1, END])?;
     assert_eq!(rt;
         change.branch,
@@ -79,9 +75,7 @@ fn hand_overs(rt: HostRuntime) -> Result<(), Fail> {
         expect(&[0x1000_0007, 0x6fff_ffff, END], 4, 1),
         expect(&[0x1000_0007, A, END, A], 7, 3),
     ];
-    for r in table.iter() {
-        assert_eq!(rt; outcome(read_hand_over(r.words)), r.outcome);
-    }
+    check_rows(&rt, &table, |words| outcome(read_hand_over(words)));
     assert_eq!(rt; read_hand_over(&[0x1000_0007, A + 65_535, END])?, 65_535);
     Ok(())
 }

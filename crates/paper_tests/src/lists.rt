@@ -25,9 +25,7 @@ fn dispatches(rt: HostRuntime) -> Result<(), Fail> {
         expect(&[0x1000_0002, A, A, A, END + 5], 4, 4),
         expect(&[0x1000_0002, A, A, A, END, A], 7, 5),
     ];
-    for r in table.iter() {
-        assert_eq!(rt; outcome(read_dispatch(r.words, 2, 1)), r.outcome);
-    }
+    check_rows(&rt, &table, |words| outcome(read_dispatch(words, 2, 1)));
     let words = [0x1000_0002, A + 600, A + 400, 0x6fff_ffc4, END];
     let paper = read_dispatch(&words, 2, 1)?;
     assert_eq!(rt; paper.powers.at(0), 600);
@@ -53,9 +51,7 @@ fn price_lists(rt: HostRuntime) -> Result<(), Fail> {
         expect(&[0x1000_0003, A, A, A, A, A + 1_000_001, A, END], 4, 5),
         expect(&[0x1000_0003, A, A, A, A, A, A, END, END], 7, 8),
     ];
-    for r in table.iter() {
-        assert_eq!(rt; outcome(read_prices(r.words, 2, 2)), r.outcome);
-    }
+    check_rows(&rt, &table, |words| outcome(read_prices(words, 2, 2)));
     let words = [0x1000_0003, A + 30, A + 31, A + 1, A + 2, A + 3, A + 4, END];
     let paper = read_prices(&words, 2, 2)?;
     assert_eq!(rt; paper.bus.at(1), 31);
@@ -79,9 +75,7 @@ fn trials(rt: HostRuntime) -> Result<(), Fail> {
         expect(&[0x1000_0006, 0x5001_0102, A, A + 1_000_001, A, END], 4, 3),
         expect(&[0x1000_0006, 0x5001_0102, A, A, A, END, END], 7, 6),
     ];
-    for r in table.iter() {
-        assert_eq!(rt; outcome(read_trial(r.words, 1, 1)), r.outcome);
-    }
+    check_rows(&rt, &table, |words| outcome(read_trial(words, 1, 1)));
     let words = [0x1000_0006, 0x5001_0102, A + 7, A + 8, A + 9, END];
     let paper = read_trial(&words, 1, 1)?;
     assert_eq!(rt;

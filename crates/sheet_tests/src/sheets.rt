@@ -5,6 +5,7 @@ use sheet::sheet::Sheet;
 use std::iter::repeat;
 use std::process::Abort;
 
+// No counts and no figures, written out: `Sheet` has no `Default`, since only these tests begin with a sheet of nothing.
 const QUIET: Sheet = Sheet {
     attendant: 0,
     held: 0,

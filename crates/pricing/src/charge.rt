@@ -19,7 +19,7 @@ pub(crate) const WEIGHT_LIMIT: i64 = 10_000_000_000;
 // Every residue lies within ± this.
 pub(crate) const RESIDUE_LIMIT: i64 = 1_000_000_000;
 
-// |z|.
+// |z|. These four are functions, so that the ranges within which each fits stand in one place.
 fn size(z: i64) -> i64
     requires { Within 1000000000 z }
     ensures { result ≡ ∣ z ∣ }

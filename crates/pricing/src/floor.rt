@@ -13,11 +13,12 @@ use machine::group::total_margin;
 use machine::machine::Machine;
 use measure::Grains;
 use measure::column::Column;
-use network::case::{Case, Machines, first_rows};
+use network::case::{Case, Machines};
 use network::prices::Prices;
 use network::refusal::Refusal;
 
-// The price at each machine's bus: a column, as a sum of margins over machines of any kind takes its prices.
+// The price at each machine's bus. A column, not a closure: a sum of margins is stated of the price in each row, where a closure's answer is a
+// relation.
 #[derive_where(Clone, Copy)]
 struct MachinePrices<'a, 'q, M, N, C, K> {
     priced: PricedCase<'a, 'q, M, N, C>,
@@ -32,7 +33,7 @@ impl<'a, 'q, M, N, C: Column, K> Column for MachinePrices<'a, 'q, M, N, C, K> {
     }
 }
 
-// What the machines, the buses and the branches make of a floor.
+// What the machines, the buses and the branches make of a floor: a function, so that the ranges within which it fits stand in one place.
 fn summed(first: i64, second: i64, buses: i64, tolerance: u32, sizes: i64, charges: i64) -> i64
     requires { Summed first second buses tolerance sizes charges }
     ensures { result ≡ first +ℤ second +ℤ buses -ℤ pos tolerance *ℤ sizes -ℤ charges }
@@ -50,7 +51,7 @@ impl<'a, 'q, M, N, C: Column> PricedCase<'a, 'q, M, N, C> {
             priced: *self,
             machines,
         };
-        total_margin(first_rows(machines.rows, machines.count), &prices).0
+        total_margin(machines.used(), &prices).0
     }
 }
 

@@ -14,7 +14,6 @@ use measure::column::Column;
 use measure::price::Price;
 use measure::range::is_between;
 use measure::rows::first_broken;
-use network::case::rows_used;
 use network::refusal::Refusal;
 
 impl<'a, 'q, M, N, C: Column> PricedCase<'a, 'q, M, N, C> {
@@ -69,16 +68,17 @@ impl<'a, 'q, M, N, C: Column> PricedCase<'a, 'q, M, N, C> {
     fn bus_price_beyond(&self) -> Option<usize>
         ensures { Lowest (BusPriceBeyond (case_of self.now.case) (prices_of C.value self.now.prices.now)) result }
     {
-        let buses = rows_used(self.case.buses, self.case.nb);
-        first_broken(buses, |row| self.is_bus_price_beyond(row))
+        first_broken(self.case.bus_count(), |row| self.is_bus_price_beyond(row))
     }
 
     // The lowest branch row with a price outside its range, or none.
     fn branch_price_beyond(&self) -> Option<usize>
         ensures { Lowest (BranchPriceBeyond (case_of self.now.case) (prices_of C.value self.now.prices.now)) result }
     {
-        let branches = rows_used(self.case.branches, self.case.nl);
-        first_broken(branches, |row| self.is_branch_price_beyond(row))
+        first_broken(
+            self.case.branch_count(),
+            |row| self.is_branch_price_beyond(row),
+        )
     }
 
     // The lowest row with a price outside its range, of the buses or else of the branches; or none.
@@ -110,8 +110,7 @@ impl<'a, 'q, M, N, C: Column> PricedCase<'a, 'q, M, N, C> {
     fn residue_beyond(&self) -> Option<usize>
         ensures { Lowest (ResidueBeyond (case_of self.now.case) (kept_prices (prices_of C.value self.now.prices.now))) result }
     {
-        let buses = rows_used(self.case.buses, self.case.nb);
-        first_broken(buses, |row| self.is_residue_beyond(row))
+        first_broken(self.case.bus_count(), |row| self.is_residue_beyond(row))
     }
 
     // Whether the list is lawful; if not, the first refusal.

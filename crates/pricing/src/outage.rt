@@ -20,7 +20,8 @@ use network::prices::Prices;
 use network::refusal::Refusal;
 
 // A case but for its branch rows: the tolerance of the balance, the buses, the machines at them, and how many branches it has.
-// Tables with counts, as in `Case`. Not the `Case` itself: its branch rows are lent here to be changed.
+// Tables with counts, as in `Case`. Not the `Case` itself: its branch rows are lent here to be
+// changed; and `Case` holds no stations, since most of its readers look for buses or branches alone.
 #[derive_where(Clone, Copy)]
 pub struct Stations<'a, M, N> {
     pub tolerance: u32,
@@ -121,6 +122,7 @@ pub fn floor_without<M: Machine, N: Machine, C: Column>(
     ensures floored { FlooredWithout M.meaning N.meaning (stations_with stations.entry branches.old) (prices_of C.value prices.now) name result }
     ensures unchanged { branches.new ≡ branches.old }
 {
+    // By `let .. else`, the form that the project asks for at a name that is looked up.
     let Some(row) = row_of(branches, stations.nl, &name) else {
         return Err(Refusal::NotInCase);
     };

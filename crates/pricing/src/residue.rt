@@ -12,7 +12,7 @@ use measure::price::Price;
 use measure::range::{keep, only_if};
 use measure::rows::sum;
 use network::branch::Branch;
-use network::case::{Case, rows_used};
+use network::case::Case;
 use network::prices::Prices;
 
 // A case and a price list. Prices outside their ranges count as 0.
@@ -22,7 +22,8 @@ pub(crate) struct PricedCase<'a, 'q, M, N, C> {
     pub(crate) prices: &'q Prices<C>,
 }
 
-// A susceptance times the price at the from end, less that at the to end, with the congestion price.
+// A susceptance times the price at the from end, less that at the to end, with the congestion price: a function, so that the ranges within which
+// it fits stand in one place.
 fn weighed(susceptance: i64, from: i64, to: i64, congestion: i64) -> i64
     requires { Weighed susceptance from to congestion }
     ensures { result ≡ susceptance *ℤ (from -ℤ to +ℤ congestion) }
@@ -37,8 +38,7 @@ impl<'a, 'q, M, N, C: Column> PricedCase<'a, 'q, M, N, C> {
         ensures { result ≡ price (case_of self.now.case) (kept_prices (prices_of C.value self.now.prices.now)) row }
     {
         let price = Price::kept(self.prices.bus.at(row)).get();
-        let buses = rows_used(self.case.buses, self.case.nb);
-        only_if(row < usize::from(buses), price)
+        only_if(row < usize::from(self.case.bus_count()), price)
     }
 
     // The congestion price of the branch in that row.
@@ -82,7 +82,8 @@ impl<'a, 'q, M, N, C: Column> PricedCase<'a, 'q, M, N, C> {
         )
     }
 
-    // What the branch in that row adds to the residue of the bus; 0 past the last row.
+    // What the branch in that row adds to the residue of the bus; 0 past the last row. By `let .. else`, as in each question of a row: what the
+    // closure of a `map_or` answers was not proved.
     #[tactic(auto, using(measure::proofs::Sums::row_past))]
     fn share(&self, bus: usize, row: usize) -> i64
         ensures { result ≡ row_value (share (case_of self.now.case) (kept_prices (prices_of C.value self.now.prices.now)) bus) self.now.case.branches.now row }

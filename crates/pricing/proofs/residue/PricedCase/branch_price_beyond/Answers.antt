@@ -9,4 +9,4 @@ pub returns : goal.returns
 returns g c =
     let s = c.args.self.now in
     let q = prices_of g.C.Column.value s.prices.now in
-    branch_lowest (case_of s.case) q c.first_broken.result (first_below (branch_price_beyond q) _ c.rows_used-branches.result _ _ c.rows_used-branches.ensures c.first_broken.ensures (λ i b l k. search rules))
+    branch_lowest (case_of s.case) q c.first_broken.result (first_below (branch_price_beyond q) _ c.branch_count.result _ _ c.branch_count.ensures c.first_broken.ensures (λ i b l k. search rules))

@@ -15,7 +15,7 @@ total_margin-requires g c =
     let m = c.args.machines in
     let h : Fits w8 c.args.machines.count = search rules in
     let n = length-take m.count m.rows.now in
-    let l = ap length c.first_rows.ensures in
+    let l = ap length c.used.ensures.exact in
     record {
       few = omega arith;
       priced = λ i k. price_within (case_of s.case) (prices_of g.C.Column.value s.prices.now) (get_or m.places.now i 0);
@@ -32,5 +32,5 @@ returns g c =
     let n = length-take m.count m.rows.now in
     let f : length ms ≤ 255 = omega arith in
     let w = total_margins_within g.K.Machine.meaning g.met.K.Machine.lawful ms 255 f L (λ i k. price_within (case_of s.case) q (get_or m.places.now i 0)) in
-    let e = passed_as (c.total_margin.ensures ∙ ap (λ (xs : _). total_margins g.K.Machine.meaning xs L) c.first_rows.ensures) (fits 255000000000000000 _ (lit< tt) w) in
+    let e = passed_as (c.total_margin.ensures ∙ ap (λ (xs : _). total_margins g.K.Machine.meaning xs L) c.used.ensures.exact) (fits 255000000000000000 _ (lit< tt) w) in
     record { small = rw e w; exact = e }

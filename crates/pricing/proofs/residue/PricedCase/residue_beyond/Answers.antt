@@ -9,4 +9,4 @@ pub returns : goal.returns
 returns g c =
     let s = c.args.self.now in
     let q = kept_prices (prices_of g.C.Column.value s.prices.now) in
-    residue_lowest (case_of s.case) q c.first_broken.result (first_below (residue_beyond (case_of s.case) q) _ c.rows_used-buses.result _ _ c.rows_used-buses.ensures c.first_broken.ensures (λ i b l k. search rules))
+    residue_lowest (case_of s.case) q c.first_broken.result (first_below (residue_beyond (case_of s.case) q) _ c.bus_count.result _ _ c.bus_count.ensures c.first_broken.ensures (λ i b l k. search rules))

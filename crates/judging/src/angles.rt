@@ -15,7 +15,7 @@ pub(crate) struct Angles<'a, C> {
     pub(crate) buses: u8,
 }
 
-// A susceptance times the angle difference less the shift.
+// A susceptance times the angle difference less the shift: a function, so that the ranges within which it fits stand in one place.
 fn carried(susceptance: i64, difference: i64, shift: i64) -> i64
     requires { Carried susceptance difference shift }
     ensures { result ≡ susceptance *ℤ (difference -ℤ shift) }

@@ -44,7 +44,7 @@ impl<'a, 'd, M, C: Column> Injections<'a, 'd, M, C> {
     }
 }
 
-// What two groups give, less the demand and what flows out.
+// What two groups give, less the demand and what flows out: a function, so that the ranges within which it fits stand in one place.
 fn net(first: i64, second: i64, demand: i64, outflow: i64) -> i64
     requires { Nets first second demand outflow }
     ensures { result ≡ first +ℤ second -ℤ demand -ℤ outflow }

@@ -9,7 +9,8 @@ use measure::column::Column;
 use measure::rows::sum;
 use network::branch::Branch;
 
-// The branches of a case, the first so many rows of their table, and the angles at its buses.
+// The branches of a case, the first so many rows of their table, and the angles at its buses. Counted in 8 bits, as in `Case`, so that what leaves
+// a bus is a sum of at most 255.
 #[derive_where(Clone, Copy)]
 pub(crate) struct Flows<'a, 'd, C> {
     pub(crate) branches: &'a [Branch],

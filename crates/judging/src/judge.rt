@@ -12,7 +12,7 @@ use machine::group::total_cost;
 use machine::machine::Machine;
 use measure::Grains;
 use measure::column::Column;
-use network::case::{Case, rows_used};
+use network::case::Case;
 use network::dispatch::Dispatch;
 use network::refusal::Refusal;
 
@@ -42,7 +42,7 @@ pub fn judge<M: Machine, N: Machine, C: Column>(
 {
     let angles = Angles {
         given: &dispatch.angles,
-        buses: rows_used(case.buses, case.nb),
+        buses: case.bus_count(),
     };
     if let Some(row) = angles.out_of_range() {
         return Err(Refusal::OutOfRange(row));

@@ -8,7 +8,7 @@ use Rattle.judging.proofs.judge.judge.Goals as goal
 pub returns-in-Some : goal.returns-in-Some
 returns-in-Some g c =
     let h = c.in-Some.ensures in
-    let e = c.rows_used.ensures in
+    let e = c.bus_count.ensures in
     out_of_range g.M.Machine.meaning g.N.Machine.meaning g.met.M.Machine.lawful g.met.N.Machine.lawful (case_of c.args.case.now) (dispatch_of g.C.Column.value c.args.dispatch.now) c.in-Some.row
     ((subst (λ n. c.in-Some.row < n) e h.0.0, h.0.1), λ j l b. h.1 j l (subst (λ n. j < n) (sym e) b.0, b.1))
 
@@ -16,11 +16,11 @@ pub returns-in_err-cost : goal.returns-in_err-cost
 returns-in_err-cost g c =
     let p = err_from_is_err_and c.from_residual.result c.from_residual.ensures.1 in
     rw (p.1, p.2)
-    (found.power_found g.M.Machine.meaning g.N.Machine.meaning g.met.M.Machine.lawful g.met.N.Machine.lawful c.args.case.now (dispatch_of g.C.Column.value c.args.dispatch.now) c.rows_used.result c.rows_used.ensures c.in_default.ensures c.in_err-cost.field-0.0 c.in_err-cost.ensures)
+    (found.power_found g.M.Machine.meaning g.N.Machine.meaning g.met.M.Machine.lawful g.met.N.Machine.lawful c.args.case.now (dispatch_of g.C.Column.value c.args.dispatch.now) c.bus_count.result c.bus_count.ensures c.in_default.ensures c.in_err-cost.field-0.0 c.in_err-cost.ensures)
 
 pub returns-in-Some-unbalanced : goal.returns-in-Some-unbalanced
 returns-in-Some-unbalanced g c =
-    found.unbalanced_found g.M.Machine.meaning g.N.Machine.meaning g.met.M.Machine.lawful g.met.N.Machine.lawful c.args.case.now (dispatch_of g.C.Column.value c.args.dispatch.now) c.rows_used.result c.rows_used.ensures c.in_default.ensures c.in_ok-cost.ensures.0 c.in-Some-unbalanced.row c.in-Some-unbalanced.ensures.0
+    found.unbalanced_found g.M.Machine.meaning g.N.Machine.meaning g.met.M.Machine.lawful g.met.N.Machine.lawful c.args.case.now (dispatch_of g.C.Column.value c.args.dispatch.now) c.bus_count.result c.bus_count.ensures c.in_default.ensures c.in_ok-cost.ensures.0 c.in-Some-unbalanced.row c.in-Some-unbalanced.ensures.0
 
 pub returns-in-Some-overloaded : goal.returns-in-Some-overloaded
 returns-in-Some-overloaded g c =
@@ -30,8 +30,8 @@ returns-in-Some-overloaded g c =
     let k = g.met.N.Machine.lawful in
     let v = c.args.case.now in
     let d = dispatch_of g.C.Column.value c.args.dispatch.now in
-    let n = c.rows_used.result in
-    let e = c.rows_used.ensures in
+    let n = c.bus_count.result in
+    let e = c.bus_count.ensures in
     let r = c.in_default.ensures in
     let a = c.in_ok-cost.ensures.0 in
     found.overload_found 𝓜 𝓝 h k v d n e r a c.in-Some-overloaded.row
@@ -45,8 +45,8 @@ returns-in-Some-overstretched g c =
     let k = g.met.N.Machine.lawful in
     let v = c.args.case.now in
     let d = dispatch_of g.C.Column.value c.args.dispatch.now in
-    let n = c.rows_used.result in
-    let e = c.rows_used.ensures in
+    let n = c.bus_count.result in
+    let e = c.bus_count.ensures in
     let r = c.in_default.ensures in
     let a = c.in_ok-cost.ensures.0 in
     found.stretch_found 𝓜 𝓝 h k v d n e r a c.in-Some-overstretched.row
@@ -61,8 +61,8 @@ returns g c =
     let k = g.met.N.Machine.lawful in
     let v = c.args.case.now in
     let d = dispatch_of g.C.Column.value c.args.dispatch.now in
-    let n = c.rows_used.result in
-    let e = c.rows_used.ensures in
+    let n = c.bus_count.result in
+    let e = c.bus_count.ensures in
     let r = c.in_default.ensures in
     let a = c.in_ok-cost.ensures.0 in
     found.all_kept 𝓜 𝓝 h k v d n e r a c.in_ok-cost.cost

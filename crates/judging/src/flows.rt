@@ -9,7 +9,7 @@ use measure::column::Column;
 use measure::rows::sum;
 use network::branch::Branch;
 
-// The branches of a case, the first so many rows of their table, and the angles at its buses.
+// The branches of a case, so many of the first rows of a table, and the angles at its buses.
 #[derive_where(Clone, Copy)]
 pub(crate) struct Flows<'a, 'd, C> {
     pub(crate) branches: &'a [Branch],

@@ -25,6 +25,10 @@ pub not_not : (t : Bool) → (not t ≡ true → ⊥) → t ≡ true
 not_not true h = refl
 not_not false h = absurd (h refl)
 
+is_true : (t : Bool) → T t → t ≡ true
+is_true true k = refl
+is_true false k = absurd k
+
 pub was_not : (t : Bool) → not t ≡ true → t ≡ true → ⊥
 was_not true e k = both_ways false refl e
 was_not false e k = both_ways false refl k
@@ -90,10 +94,6 @@ module _ {M N : Type 0} (c : Case M N) (d : WholeDispatch) where
         between_whole (neg_ℤ r.rating.0) r.rating.0 _ (flow_of θ r) (over_flow_of r)
         (not_not _ (λ e. h (and_from (r.service && lt_z (pos 0) r.rating.0) _ (and_from r.service _ (is_true r.service on) (positive r.rating.0 rated)) e)))
       where
-        is_true : (t : Bool) → T t → t ≡ true
-        is_true true k = refl
-        is_true false k = absurd k
-
         positive : (z : ℤ) → pos 0 <ℤ z → lt_z (pos 0) z ≡ true
         positive z k = is_true (lt_z (pos 0) z) k.lt
 
@@ -107,10 +107,6 @@ module _ {M N : Type 0} (c : Case M N) (d : WholeDispatch) where
     limited_so r h on =
         between_whole r.angmin.0 r.angmax.0 _ (difference_of θ r) (over_difference_of r)
         (not_not _ (λ e. h (and_from r.service _ (is_true r.service on) e)))
-      where
-        is_true : (t : Bool) → T t → t ≡ true
-        is_true true k = refl
-        is_true false k = absurd k
 
     -- ---- the balance
     outflow_same : (n : ℕ) → total (outflow_row θ n) (rows c.branches) ≡ leavingᶻ c.branches θ (pos 1) n -ℤ arrivingᶻ c.branches θ (pos 1) n

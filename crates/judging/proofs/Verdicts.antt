@@ -1,5 +1,5 @@
 -- From what the tests of judging found to its answer: the dispatch is taken, or the refusal is due and the dispatch misses the case.
-use Rattle.std.proofs.Common.{◌≡◌, ℕ, zero, suc, ◌+◌, ◌-◌, ◌<◌, true, false, T, ltb, length, pos, neg_ℤ, ◌<ℤ◌, Some, sym, refl, subst, ⊎_elim, arith, lt→ltb}
+use Rattle.std.proofs.Common.{◌≡◌, ℕ, zero, suc, ◌-◌, ◌<◌, true, false, T, ltb, length, pos, neg_ℤ, ◌<ℤ◌, Some, sym, refl, subst, zero-add, ⊎_elim, arith, lt→ltb}
 use Rattle.std.proofs.lemmas.Bool.{both_ways}
 use Rattle.measure.specs.declared.Grains.{Grains}
 use Rattle.measure.specs.Range.{Within}
@@ -22,6 +22,10 @@ use Rattle.network.proofs.Scaled.{angleᶻ, whole_angles}
 use Rattle.network.proofs.Counted.{counted-covers}
 use Rattle.judging.proofs.Judging.{not_not, was_not, between_whole, whole_is_between}
 
+-- the angle of the bus in row i + 1 stands in row i
+before : (i : ℕ) → i ≡ suc i - 1
+before i = omega arith
+
 module _ {M N : Type 0} (𝓜 : Meaning M) (𝓝 : Meaning N) (keeps₁ : Keeps 𝓜) (keeps₂ : Keeps 𝓝) (c : Case M N) (d : WholeDispatch) where
   -- ---- angles
   angle_is : (i : ℕ) → suc i < length c.buses → angleᶻ (length c.buses) d.angles (suc i) ≡ d.angles i
@@ -33,11 +37,8 @@ module _ {M N : Type 0} (𝓜 : Meaning M) (𝓝 : Meaning N) (keeps₁ : Keeps 
   meets_angles a i l =
       let x = row_there c.buses (suc i) l in
       let w = look (λ (b : Row Bus). Between (neg_ℤ angle_limit) angle_limit (angle c (in_fractions d) b.row)) _ (rows c.buses) a (stands_row 0 c.buses (suc i) x.0 x.1) in
-      let v = subst (λ k. Between (neg_ℤ angle_limit) angle_limit (angle c (in_fractions d) k)) (zero_plus (suc i)) w in
+      let v = subst (λ k. Between (neg_ℤ angle_limit) angle_limit (angle c (in_fractions d) k)) (zero-add (suc i)) w in
       subst (Within 3200000) (angle_is i l) (test_within 3200000 _ (whole_is_between (neg_ℤ angle_limit) angle_limit _ _ (whole_angles c d (suc i)) v))
-    where
-      zero_plus : (n : ℕ) → 0 + n ≡ n
-      zero_plus n = omega arith
 
   angle_within : AnglesKept c d → (n : ℕ) → n < length c.buses → Within 3200000 (angleᶻ (length c.buses) d.angles n)
   unfolding angleᶻ
@@ -56,16 +57,10 @@ module _ {M N : Type 0} (𝓜 : Meaning M) (𝓝 : Meaning N) (keeps₁ : Keeps 
   beyond_so zero l e = absurd (both_ways false refl e)
   beyond_so (suc i) l e =
       (omega arith, l, subst (λ k. Within 3200000 (d.angles k) → ⊥) (before i) (λ w. was_not _ e (within_test 3200000 (d.angles i) w)))
-    where
-      before : (i : ℕ) → i ≡ suc i - 1
-      before i = omega arith
 
   beyond_not : (i : ℕ) → AngleBeyond c d i → (angle_beyond d.angles i ≡ true → ⊥) → ⊥
   beyond_not zero b h = let l = b.0 in absurd (omega arith)
   beyond_not (suc i) b h = b.2 (subst (λ k. Within 3200000 (d.angles k)) (before i) (test_within 3200000 (d.angles i) (not_not _ h)))
-    where
-      before : (i : ℕ) → i ≡ suc i - 1
-      before i = omega arith
 
   pub out_of_range : (i : ℕ) → Lowest (λ i. (i < length c.buses) × (angle_beyond d.angles i ≡ true)) (Some i) → Declined 𝓜 𝓝 c d (OutOfRange i)
   out_of_range i h =
@@ -78,9 +73,6 @@ module _ {M N : Type 0} (𝓜 : Meaning M) (𝓝 : Meaning N) (keeps₁ : Keeps 
       kept_not : (i : ℕ) → AngleBeyond c d i → AnglesKept c d → ⊥
       kept_not zero b k = let l = b.0 in absurd (omega arith)
       kept_not (suc i) b k = b.2 (subst (λ j. Within 3200000 (d.angles j)) (before i) (k i b.1))
-        where
-          before : (i : ℕ) → i ≡ suc i - 1
-          before i = omega arith
 
   -- ---- powers
   pub not_allowed : (e : Refusal) → AnglesKept c d → PowerFault 𝓜 𝓝 c d e → Declined 𝓜 𝓝 c d e

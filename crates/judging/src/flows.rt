@@ -9,7 +9,7 @@ use measure::column::Column;
 use measure::rows::sum;
 use network::branch::Branch;
 
-// The branches of a case, the first so many rows of their table, and the angles at its buses. Counted in 8 bits, as in `Case`, so that what leaves
+// The branches of a case, so many of the first rows of a table, and the angles at its buses. Counted in 8 bits, as in `Case`, so that what leaves
 // a bus is a sum of at most 255.
 #[derive_where(Clone, Copy)]
 pub(crate) struct Flows<'a, 'd, C> {
@@ -26,7 +26,8 @@ impl<'a, 'd, C: Column> Flows<'a, 'd, C> {
         branch.ends.leaving(bus, self.angles.flow(branch))
     }
 
-    // What leaves the bus by the branch in that row, less what arrives; 0 past the last row.
+    // What leaves the bus by the branch in that row, less what arrives; 0 past the last row. By `let .. else`, as in each question of a row: what the
+    // closure of a `map_or` answers was not proved.
     #[tactic(auto, using(measure::proofs::Sums::row_past))]
     fn outflow_in(&self, row: usize, bus: usize) -> i64
         ensures { result ≡ row_value (outflow_row (angle_of self.now.angles.buses (C.value self.now.angles.given.now)) bus) self.now.branches.now row }

@@ -1,11 +1,12 @@
 -- From the tests of a price list to its lawfulness, and from the quantities of a list in range to those of the floor.
-use Rattle.std.proofs.Common.{◌≡◌, ℕ, zero, suc, ◌+◌, ◌-◌, ◌^◌, ◌<◌, Bool, true, false, not, ◌&&◌, T, eqb, ltb, List, [], ◌∷◌, length, ℤ, pos, negsuc, ◌+ℤ◌, ◌-ℤ◌, ◌*ℤ◌, neg_ℤ, Some, None, Option, sym, refl, ap, subst, ⊎_elim, arith, ltb→lt, w64, of_z}
+use Rattle.std.proofs.Common.{◌≡◌, ℕ, suc, ◌-◌, ◌^◌, ◌<◌, Bool, true, false, not, ◌&&◌, T, eqb, ltb, List, length, ℤ, pos, negsuc, ◌+ℤ◌, ◌-ℤ◌, ◌*ℤ◌, neg_ℤ, Some, None, Option, sym, refl, ap, subst, zero-add, ⊎_elim, arith, ltb→lt, w64, of_z}
 use lib.Signed.{mag}
 use Rattle.std.proofs.lemmas.Bool.{ne_eqb, eqb-true, false≢true, both_ways, cases_Bool, and_parts, and_from, or_cases, or_parts, not-true, not-false, not_from_false}
 use Rattle.measure.specs.Range.{Within, between}
-use Rattle.measure.specs.Rows.{Row, rows, only, All, Stands, Lowest}
+use Rattle.measure.specs.Rows.{Row, rows, only, All, Lowest}
 use Rattle.measure.proofs.Order.{within_test, test_within, kept_same}
 use Rattle.measure.proofs.Sums.{In, look, each, row_stands, stands_row, stands_below, total_same}
+use Rattle.measure.proofs.Tested.{holds_in, row_there}
 use Rattle.network.specs.declared.bus.Bus.{Bus}
 use Rattle.network.specs.declared.branch.Branch.{Branch}
 use Rattle.network.specs.declared.refusal.Refusal.TheVariants.{Unrated, Weight, Residue}
@@ -47,19 +48,7 @@ within_unless : (n : ℕ) (z : ℤ) → ((Within n z → ⊥) → ⊥) → Withi
 within_unless n z h =
     ⊎_elim (λ e. test_within n z e) (λ e. absurd (h (λ w. both_ways (between (neg_ℤ (pos n)) (pos n) z) e (within_test n z w)))) (cases_Bool (between (neg_ℤ (pos n)) (pos n) z))
 
--- a row of a table, as one of its numbered rows
-standing : {X : Type 0} (xs : List X) (i : ℕ) (x : X) → Stands xs i x → In (record { item = x; row = i }) (rows xs)
-standing xs i x s = subst (λ m. In (record { item = x; row = m }) (rows xs)) (zero_plus i) (stands_row 0 xs i x s)
-  where
-    zero_plus : (i : ℕ) → 0 + i ≡ i
-    zero_plus i = omega arith
-
-stander : {X : Type 0} (xs : List X) (i : ℕ) → i < length xs → (x : X) × Stands xs i x
-unfolding Stands
-stander [] i l = absurd (omega arith)
-stander (x ∷ xs) zero l = (x, refl)
-stander (x ∷ xs) (suc i) l = stander xs i (omega arith)
-
+-- a numbered row is one of the table's
 pub row_below : {X : Type 0} (xs : List X) (r : Row X) → In r (rows xs) → r.row < length xs
 row_below xs r k = let s = row_stands 0 xs r k in let e = s.1 in let l = s.2 in omega arith
 
@@ -176,7 +165,7 @@ module _ {M N : Type 0} (c : Case M N) (q : Prices) (bus_prices : BusPricesKept 
   refused_unrated i h =
       record {
         why = record { bus_prices = bus_prices; branch_prices = branch_prices; lowest = h };
-        unlawful = λ lawful. h.0.holds.2 (look (λ (r : Row Branch). T r.item.service → r.item.rating.0 ≡ pos 0 → q.congestion r.row ≡ pos 0) _ (rows c.branches) lawful.unrated_free (standing c.branches i h.0.item h.0.stands) h.0.holds.0 h.0.holds.1);
+        unlawful = λ lawful. h.0.holds.2 (look (λ (r : Row Branch). T r.item.service → r.item.rating.0 ≡ pos 0 → q.congestion r.row ≡ pos 0) _ (rows c.branches) lawful.unrated_free (holds_in _ c.branches i h.0) h.0.holds.0 h.0.holds.1);
       }
 
   module _ (none : Lowest (UnratedRow c q) None) where
@@ -189,7 +178,7 @@ module _ {M N : Type 0} (c : Case M N) (q : Prices) (bus_prices : BusPricesKept 
         let l = weight_lowest (Some i) h in
         record {
           why = record { bus_prices = bus_prices; branch_prices = branch_prices; unrated = none_unrated; lowest = l };
-          unlawful = λ lawful. l.0.holds.1 (look (λ (r : Row Branch). T r.item.service → Within 10000000000 (weight c q r)) _ (rows c.branches) lawful.weights (standing c.branches i l.0.item l.0.stands) l.0.holds.0);
+          unlawful = λ lawful. l.0.holds.1 (look (λ (r : Row Branch). T r.item.service → Within 10000000000 (weight c q r)) _ (rows c.branches) lawful.weights (holds_in _ c.branches i l.0) l.0.holds.0);
         }
 
     module _ (light : Lowest (WeightBeyond c (kept_prices q)) None) where
@@ -208,8 +197,8 @@ module _ {M N : Type 0} (c : Case M N) (q : Prices) (bus_prices : BusPricesKept 
         where
           residue_kept : All (λ (b : Row Bus). Within 1000000000 (residue c q b.row)) (rows c.buses) → (i : ℕ) → i < length c.buses → Within 1000000000 (residue c q i)
           residue_kept all i l =
-              let s = stander c.buses i l in
-              look (λ (b : Row Bus). Within 1000000000 (residue c q b.row)) (record { item = s.0; row = i }) (rows c.buses) all (standing c.buses i s.0 s.1)
+              let s = row_there c.buses i l in
+              subst (λ n. Within 1000000000 (residue c q n)) (zero-add i) (look (λ (b : Row Bus). Within 1000000000 (residue c q b.row)) _ (rows c.buses) all (stands_row 0 c.buses i s.0 s.1))
 
       pub lawful_list : Lowest (ResidueBeyond c (kept_prices q)) None → LawfulList c q
       lawful_list none =

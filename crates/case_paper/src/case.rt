@@ -33,7 +33,7 @@ fn end_in_time(tally: &Tally<'_>, state: State, place: usize, word: u32) -> Resu
     }
 }
 
-// Whether the words are a lawful case, for tables of so many bus, stepped, curved and branch rows.
+// Refuses the words unless they are a lawful case, for tables of so many bus, stepped, curved and branch rows.
 pub fn check_records(words: &[u32], rows: &[usize; 4]) -> Result<(), RecordFault>
     ensures { MatchResult result (λ _. LawfulCase rows.now words.now) (λ f. RefusedCase rows.now words.now f) }
 {
@@ -58,7 +58,7 @@ pub fn check_records(words: &[u32], rows: &[usize; 4]) -> Result<(), RecordFault
     }
 }
 
-// A checked case, as it stands in its words.
+// A checked case, as it stands in its words. That they are lawful is said by who makes one: a ghost field would ask for it each time.
 #[derive(Clone, Copy, Drop)]
 pub struct CasePaper<'a> {
     pub words: &'a [u32],

@@ -10,7 +10,8 @@ use crate::order::in_order;
 use crate::state::Open;
 use word::kind::payload;
 
-// The words of a case, the rows provided for its bus, stepped, curved and branch records, and how many of each are counted.
+// The words of a case, the rows provided for its bus, stepped, curved and branch records, and how many of each are counted. By the rank of a sort, not
+// by name as in `build`, since which count rises is told by a record's sort.
 #[derive(Clone, Copy)]
 pub struct Tally<'a> {
     pub words: &'a [u32],

@@ -4,6 +4,7 @@ ghost use Rattle.word.specs.Run.{Due};
 ghost use Rattle.case_paper.specs.Case.{amounts_of, head_amounts, FirstWord, sort_of, rank};
 ghost use Rattle.case_paper.specs.State.{after_sort};
 
+use machine::limits::MOST_BEND;
 use measure::Watts;
 use names::number::may_name;
 use network::branch::Branch;
@@ -23,7 +24,7 @@ pub enum Sort {
     Branch,
 }
 
-// The tolerance, then how many bus, stepped, curved and branch records follow.
+// The tolerance, then how many bus, stepped, curved and branch records follow. By `as`, since a constant can't call `From`.
 const HEAD: [Slot; 5] = [
     Slot::Amount(0, TOLERANCE),
     Slot::Amount(1, BUSES as i64),
@@ -35,8 +36,8 @@ const HEAD: [Slot; 5] = [
 // The demand.
 const BUS: [Slot; 1] = [POWER];
 
-// The limits, the cost at 0 in millions, the slope there, the bend.
-const CURVED: [Slot; 5] = [POWER, POWER, POWER, PRICE, Slot::Amount(1, 500)];
+// The limits, the cost at 0 in millions (its range has the numbers of a power's), the slope there, the bend.
+const CURVED: [Slot; 5] = [POWER, POWER, POWER, PRICE, Slot::Amount(1, MOST_BEND)];
 
 // Susceptance, shift, rating, least and most angle difference, service mark.
 const BRANCH: [Slot; 6] = [
@@ -56,7 +57,7 @@ pub fn head_slot(read: usize) -> Option<Slot>
 }
 
 impl Sort {
-    // The sort of record that a word begins. Not `From`: of words that begin none it says nothing of use.
+    // The sort of record that a word begins. Neither `From` nor an option: `opens_record` tests a word first, and this can't fail.
     pub fn of(word: u32) -> Sort
         ensures { result ≡ sort_of word }
     {
@@ -118,7 +119,7 @@ impl Sort {
     }
 }
 
-// Limits, first cost and points, all in the range of a power; then the slopes.
+// Limits, first cost in millions and points, all in the range of a power's numbers; then the slopes.
 fn stepped_slot(n: usize, read: usize) -> Option<Slot>
     ensures { Due (amounts_of (Sort.Stepped n)) read result }
 {

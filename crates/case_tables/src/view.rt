@@ -11,7 +11,7 @@ use network::case::{Case, Machines};
 use stepped::stepped::Stepped;
 
 // A view of the case in the tables that it was read into. Not by build's view: that one asks for a tolerance in its range, and a `ReadCase` may hold any.
-// Six tables, as `read_case` is lent them: a struct of them would be made for this call alone.
+// Six tables, as `read_case` is lent them.
 pub fn view<'a>(
     read: ReadCase,
     buses: &'a [Bus],

@@ -4,7 +4,7 @@ ghost use Rattle.curved.specs.Quadratic.{Ranges, in_range, least_over, curved_me
 ghost use Rattle.curved.specs.Keeping.{curved_lawful};
 
 use crate::quadratic::Quadratic;
-use machine::limits::{self, FIXED_COST_LIMIT, Power};
+use machine::limits::{self, FIXED_COST_LIMIT, MOST_BEND, Power};
 use machine::machine::Machine;
 use measure::price::Price;
 use measure::range::is_between;
@@ -30,7 +30,7 @@ impl Curved {
         limits::are_in_range(self.bus, self.lo, self.hi)
             & is_between(-FIXED_COST_LIMIT, FIXED_COST_LIMIT, self.c0)
             & is_between(-Price::LIMIT, Price::LIMIT, self.c1)
-            & is_between(1, 500, self.c2)
+            & is_between(1, MOST_BEND, self.c2)
     }
 
     // Its cost less q × power. Ranges are asked for, not held by the type: any numbers may stand in a row.

@@ -12,6 +12,12 @@ use names::number::may_name;
 // The part of a cost that no power alters lies within ± this many millions of grains per hour.
 pub const FIXED_COST_LIMIT: i64 = 100_000_000;
 
+// The bend of a quadratic cost is 1 to this.
+pub const MOST_BEND: i64 = 500;
+
+// A cost in straight pieces has two points or more, up to this many.
+pub const MOST_POINTS: usize = 8;
+
 // A power within the widest limits, ±100,000,000 W.
 #[derive(Clone, Copy)]
 pub struct Power {

@@ -24,8 +24,8 @@ pub fn branch_run(branches: u8) -> Run
     }
 }
 
-// The price list that stands from a place on, as it stands in its words. Two counts, not a struct of them: it would be made and taken apart
-// for this call.
+// The price list that stands from a place on, as it stands in its words. Two counts, one by one, as each reader
+// takes those that its form has.
 pub fn price_columns<'a>(
     words: &'a [u32],
     start: usize,

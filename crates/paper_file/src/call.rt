@@ -5,6 +5,7 @@ ghost use Rattle.paper_file.specs.Calls.{call_for};
 use word::head::Head;
 use word::kind::{Kind, kind_of, payload};
 
+// The calls that a paper may go to. Not `Head`, which names the case as well: no paper goes to that after the first.
 #[derive(Clone, Copy, PartialEq, Eq, Debug)]
 pub enum Call {
     Dispatch,

@@ -117,7 +117,7 @@ impl<'a, 'q, M, N, C: Column> PricedCase<'a, 'q, M, N, C> {
     pub(crate) fn check(&self) -> Result<(), Refusal>
         ensures { Checked (case_of self.now.case) (prices_of C.value self.now.prices.now) result }
     {
-        // An `if let` at each limit: `map_or(Ok(()), |row| Err(..))?` would make a result only to take it apart.
+        // An `if let` at each limit: by a function that makes a refusal of each row the proof was twice as long.
         if let Some(row) = self.price_beyond() {
             return Err(Refusal::OutOfRange(row));
         }

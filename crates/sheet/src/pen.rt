@@ -28,7 +28,8 @@ impl Page {
         &self.bytes[0..self.len]
     }
 
-    // Room is asked for here and in what writes by it: how much is written is a fact of the bytes, not of the page.
+    // Room is asked for here and in what writes by it: how much is written is a fact of the bytes, not of the page. Bytes, not `fmt::Write`: that may
+    // fail, and a sheet can't.
     fn push_all(&mut self, bytes: &[u8])
         requires { self.old.len + length bytes.now ≤ 256 }
         ensures text { text_of self.new ≡ text_of self.old ++ bytes.now }

@@ -32,7 +32,7 @@ impl Sheet {
         ensures gap { read_gap result.bytes ≡ gap_of self.now.cost self.now.floor }
     {
         let mut page = Page::blank();
-        // A call for each line: a loop over a table of words and figures would have as many.
+        // A call for each line: a table of words and figures to go through would have a line for each too.
         page.push_line(b"WATCH", Figure::from(u32::from(self.attendant)));
         page.push_line(b"HELD", Figure::from(self.held));
         page.push_line(b"PASSED", Figure::from(self.passed));

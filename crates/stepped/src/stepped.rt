@@ -5,7 +5,7 @@ ghost use Rattle.stepped.specs.StepLaw.{OneCost};
 ghost use Rattle.stepped.specs.Keeping.{stepped_lawful};
 
 use crate::piecewise::{Line, Pieces, all_between};
-use machine::limits::{self, FIXED_COST_LIMIT, Power};
+use machine::limits::{self, FIXED_COST_LIMIT, MOST_POINTS, Power};
 use machine::machine::Machine;
 use measure::price::Price;
 use measure::range::is_between;
@@ -22,7 +22,7 @@ pub struct Stepped {
     pub hi: Watts,
     pub c: i64,
     pub n: usize,
-    pub points: [i64; 8],
+    pub points: [i64; MOST_POINTS],
     pub slopes: [i64; 7],
 }
 
@@ -33,7 +33,7 @@ impl Stepped {
         ensures cost { result ≡ true → OneCost self.now }
     {
         // Written out: by `contains` it was not proved that the slices below lie within the arrays.
-        if self.n < 2 || self.n > 8 {
+        if self.n < 2 || self.n > MOST_POINTS {
             return false;
         }
         let points = &self.points[0..self.n];

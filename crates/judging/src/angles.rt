@@ -5,13 +5,14 @@ ghost use Rattle.judging.specs.Whole.{angle_of, difference_of, flow_of};
 
 use measure::Microradians;
 use measure::column::Column;
+use measure::measured::AngleColumn;
 use measure::range::{keep, only_if};
 use network::branch::Branch;
 
 // The angles that a dispatch gives, at so many buses.
 #[derive_where(Clone, Copy)]
 pub(crate) struct Angles<'a, C> {
-    pub(crate) given: &'a C,
+    pub(crate) given: &'a AngleColumn<C>,
     pub(crate) buses: u8,
 }
 
@@ -26,7 +27,7 @@ fn carried(susceptance: i64, difference: i64, shift: i64) -> i64
 impl<'a, C: Column> Angles<'a, C> {
     // The angle at the bus in that row: 0 at the reference.
     pub(crate) fn at_bus(&self, row: u8) -> i64
-        ensures { result ≡ angle_of self.now.buses (C.value self.now.given.now) row }
+        ensures { result ≡ angle_of self.now.buses (C.value self.now.given.now.column) row }
     {
         if row == 0 {
             return 0;
@@ -34,21 +35,21 @@ impl<'a, C: Column> Angles<'a, C> {
         let angle = keep(
             -Microradians::LIMIT,
             Microradians::LIMIT,
-            self.given.at(usize::from(row) - 1),
+            self.given.at(usize::from(row) - 1).0,
         );
         only_if(row < self.buses, angle)
     }
 
     // The angle at its from end less that at its to end.
     pub(crate) fn difference(&self, branch: &Branch) -> i64
-        ensures { result ≡ difference_of (angle_of self.now.buses (C.value self.now.given.now)) branch.now }
+        ensures { result ≡ difference_of (angle_of self.now.buses (C.value self.now.given.now.column)) branch.now }
     {
         self.at_bus(branch.ends.from) - self.at_bus(branch.ends.to)
     }
 
     // What the branch carries.
     pub(crate) fn flow(&self, branch: &Branch) -> i64
-        ensures { result ≡ flow_of (angle_of self.now.buses (C.value self.now.given.now)) branch.now }
+        ensures { result ≡ flow_of (angle_of self.now.buses (C.value self.now.given.now.column)) branch.now }
     {
         only_if(
             branch.service,

@@ -21,7 +21,7 @@ pub(crate) struct Flows<'a, 'd, C> {
 impl<'a, 'd, C: Column> Flows<'a, 'd, C> {
     // What leaves the bus by that branch, less what arrives.
     fn outflow_by(&self, branch: &Branch, bus: usize) -> i64
-        ensures { result ≡ outflow_of (angle_of self.now.angles.buses (C.value self.now.angles.given.now)) bus branch.now }
+        ensures { result ≡ outflow_of (angle_of self.now.angles.buses (C.value self.now.angles.given.now.column)) bus branch.now }
     {
         branch.ends.leaving(bus, self.angles.flow(branch))
     }
@@ -30,7 +30,7 @@ impl<'a, 'd, C: Column> Flows<'a, 'd, C> {
     // closure of a `map_or` answers was not proved.
     #[tactic(auto, using(measure::proofs::Sums::row_past))]
     fn outflow_in(&self, row: usize, bus: usize) -> i64
-        ensures { result ≡ row_value (outflow_row (angle_of self.now.angles.buses (C.value self.now.angles.given.now)) bus) self.now.branches.now row }
+        ensures { result ≡ row_value (outflow_row (angle_of self.now.angles.buses (C.value self.now.angles.given.now.column)) bus) self.now.branches.now row }
     {
         let Some(branch) = self.branches.get(row) else {
             return 0;
@@ -41,7 +41,7 @@ impl<'a, 'd, C: Column> Flows<'a, 'd, C> {
     // What leaves the bus by all branches, less what arrives.
     pub(crate) fn outflow(&self, bus: usize) -> i64
         ensures small { Within 4080000000000000 result }
-        ensures exact { result ≡ total (outflow_row (angle_of self.now.angles.buses (C.value self.now.angles.given.now)) bus) (rows (take self.now.count self.now.branches.now)) }
+        ensures exact { result ≡ total (outflow_row (angle_of self.now.angles.buses (C.value self.now.angles.given.now.column)) bus) (rows (take self.now.count self.now.branches.now)) }
     {
         sum(self.count, |row| self.outflow_in(row, bus))
     }

@@ -14,15 +14,15 @@ use network::branch::Branch;
 impl<'a, C: Column> Angles<'a, C> {
     // Whether the angle given for the bus in that row is out of range; none is given for the reference.
     fn is_out_of_range(&self, row: usize) -> bool
-        ensures { result ≡ angle_beyond (C.value self.now.given.now) row }
+        ensures { result ≡ angle_beyond (C.value self.now.given.now.column) row }
     {
         let limit = Microradians::LIMIT;
-        row > 0 && !is_between(-limit, limit, self.given.at(row - 1))
+        row > 0 && !is_between(-limit, limit, self.given.at(row - 1).0)
     }
 
     // The lowest bus row whose angle is out of range, or none.
     pub(crate) fn out_of_range(&self) -> Option<usize>
-        ensures { Lowest (λ i. (i < self.now.buses) × (angle_beyond (C.value self.now.given.now) i ≡ true)) result }
+        ensures { Lowest (λ i. (i < self.now.buses) × (angle_beyond (C.value self.now.given.now.column) i ≡ true)) result }
     {
         first_broken(self.buses, |row| self.is_out_of_range(row))
     }
@@ -31,7 +31,7 @@ impl<'a, C: Column> Angles<'a, C> {
 impl<'a, 'd, C: Column> Flows<'a, 'd, C> {
     // Whether the branch is in service and carries more than its rating.
     fn exceeds_rating(&self, branch: &Branch) -> bool
-        ensures { result ≡ overloaded (angle_of self.now.angles.buses (C.value self.now.angles.given.now)) branch.now }
+        ensures { result ≡ overloaded (angle_of self.now.angles.buses (C.value self.now.angles.given.now.column)) branch.now }
     {
         let rating = branch.rating.0;
         branch.service & (0 < rating) & !is_between(-rating, rating, self.angles.flow(branch))
@@ -40,7 +40,7 @@ impl<'a, 'd, C: Column> Flows<'a, 'd, C> {
     // Whether the branch in that row does.
     #[tactic(auto, using(measure::proofs::Sums::row_past))]
     fn is_overloaded(&self, row: usize) -> bool
-        ensures { result ≡ row_test (overloaded_row (angle_of self.now.angles.buses (C.value self.now.angles.given.now))) self.now.branches.now row }
+        ensures { result ≡ row_test (overloaded_row (angle_of self.now.angles.buses (C.value self.now.angles.given.now.column))) self.now.branches.now row }
     {
         let Some(branch) = self.branches.get(row) else {
             return false;
@@ -50,7 +50,7 @@ impl<'a, 'd, C: Column> Flows<'a, 'd, C> {
 
     // The lowest branch row that does, or none.
     pub(crate) fn overloaded(&self) -> Option<usize>
-        ensures { Lowest (λ i. (i < self.now.count) × (row_test (overloaded_row (angle_of self.now.angles.buses (C.value self.now.angles.given.now))) self.now.branches.now i ≡ true)) result }
+        ensures { Lowest (λ i. (i < self.now.count) × (row_test (overloaded_row (angle_of self.now.angles.buses (C.value self.now.angles.given.now.column))) self.now.branches.now i ≡ true)) result }
     {
         first_broken(self.count, |row| self.is_overloaded(row))
     }
@@ -58,7 +58,7 @@ impl<'a, 'd, C: Column> Flows<'a, 'd, C> {
     // Whether the branch is in service and its angle difference breaks its limits. Not the three functions above with this test passed in: their
     // clauses would speak of a closure in place of the limit.
     fn breaks_limits(&self, branch: &Branch) -> bool
-        ensures { result ≡ overstretched (angle_of self.now.angles.buses (C.value self.now.angles.given.now)) branch.now }
+        ensures { result ≡ overstretched (angle_of self.now.angles.buses (C.value self.now.angles.given.now.column)) branch.now }
     {
         let difference = self.angles.difference(branch);
         branch.service & !is_between(branch.angmin.0, branch.angmax.0, difference)
@@ -67,7 +67,7 @@ impl<'a, 'd, C: Column> Flows<'a, 'd, C> {
     // Whether the branch in that row does.
     #[tactic(auto, using(measure::proofs::Sums::row_past))]
     fn is_overstretched(&self, row: usize) -> bool
-        ensures { result ≡ row_test (overstretched_row (angle_of self.now.angles.buses (C.value self.now.angles.given.now))) self.now.branches.now row }
+        ensures { result ≡ row_test (overstretched_row (angle_of self.now.angles.buses (C.value self.now.angles.given.now.column))) self.now.branches.now row }
     {
         let Some(branch) = self.branches.get(row) else {
             return false;
@@ -77,7 +77,7 @@ impl<'a, 'd, C: Column> Flows<'a, 'd, C> {
 
     // The lowest branch row that does, or none.
     pub(crate) fn overstretched(&self) -> Option<usize>
-        ensures { Lowest (λ i. (i < self.now.count) × (row_test (overstretched_row (angle_of self.now.angles.buses (C.value self.now.angles.given.now))) self.now.branches.now i ≡ true)) result }
+        ensures { Lowest (λ i. (i < self.now.count) × (row_test (overstretched_row (angle_of self.now.angles.buses (C.value self.now.angles.given.now.column))) self.now.branches.now i ≡ true)) result }
     {
         first_broken(self.count, |row| self.is_overstretched(row))
     }

@@ -21,4 +21,4 @@ case_of c =
 
 -- the dispatch that three columns give; `value` reads a column
 abbrev pub dispatch_of : {C : Type 0} → (C → ℕ → ℤ) → Dispatch C → WholeDispatch
-dispatch_of value d = record { first = value d.first; second = value d.second; angles = value d.angles }
+dispatch_of value d = record { first = value d.first.column; second = value d.second.column; angles = value d.angles.column }

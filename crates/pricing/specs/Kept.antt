@@ -14,7 +14,7 @@ use Rattle.network.specs.Floor.{Prices, price, weight, pull, residue, angle_char
 -- the price list that three columns give
 abbrev pub prices_of : {C : Type 0} → (C → ℕ → ℤ) → view.Prices C → Prices
 prices_of value q =
-    record { bus = value q.bus; congestion = value q.congestion; angle = value q.angle }
+    record { bus = value q.bus.column; congestion = value q.congestion.column; angle = value q.angle.column }
 
 -- a price, an angle price, a weight or a residue, or 0 outside its range
 abbrev pub kept_price : ℤ → ℤ

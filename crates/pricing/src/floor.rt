@@ -13,6 +13,7 @@ use machine::group::total_margin;
 use machine::machine::Machine;
 use measure::Grains;
 use measure::column::Column;
+use measure::measured::PriceColumn;
 use network::case::{Case, Machines};
 use network::prices::Prices;
 use network::refusal::Refusal;
@@ -47,11 +48,11 @@ impl<'a, 'q, M, N, C: Column> PricedCase<'a, 'q, M, N, C> {
         ensures small { Within 255000000000000000 result }
         ensures exact { result ≡ total_margins K.meaning (group_of machines.entry).machines (λ i. price (case_of self.now.case) (kept_prices (prices_of C.value self.now.prices.now)) ((group_of machines.entry).place i)) }
     {
-        let prices = MachinePrices {
+        let column = MachinePrices {
             priced: *self,
             machines,
         };
-        total_margin(machines.used(), &prices).0
+        total_margin(machines.used(), &PriceColumn { column }).0
     }
 }
 

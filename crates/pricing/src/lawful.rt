@@ -11,27 +11,25 @@ use crate::charge::{RESIDUE_LIMIT, WEIGHT_LIMIT};
 use crate::residue::PricedCase;
 use measure::AnglePrice;
 use measure::column::Column;
-use measure::price::Price;
 use measure::range::is_between;
 use measure::rows::first_broken;
 use network::refusal::Refusal;
 
 impl<'a, 'q, M, N, C: Column> PricedCase<'a, 'q, M, N, C> {
-    // Whether the price of the bus in that row is outside its range. By `is_between`, as each test here: a weight's limit needs more than the 32
-    // bits of `is_beyond`.
+    // Whether the price of the bus in that row is outside its range.
     fn is_bus_price_beyond(&self, row: usize) -> bool
         ensures { result ≡ bus_price_beyond (prices_of C.value self.now.prices.now) row }
     {
-        !is_between(-Price::LIMIT, Price::LIMIT, self.prices.bus.at(row))
+        self.prices.bus.at(row).is_none()
     }
 
-    // Whether the congestion price or the angle price of the branch in that row is outside its range.
+    // Whether the congestion price or the angle price of the branch in that row is outside its range. By `is_between`, as each test of a limit here:
+    // a weight's limit needs more than the 32 bits of `is_beyond`.
     fn is_branch_price_beyond(&self, row: usize) -> bool
         ensures { result ≡ branch_price_beyond (prices_of C.value self.now.prices.now) row }
     {
-        let congestion = self.prices.congestion.at(row);
-        let angle = self.prices.angle.at(row);
-        !is_between(-Price::LIMIT, Price::LIMIT, congestion)
+        let angle = self.prices.angle.at(row).0;
+        self.prices.congestion.at(row).is_none()
             | !is_between(-AnglePrice::LIMIT, AnglePrice::LIMIT, angle)
     }
 
@@ -43,7 +41,7 @@ impl<'a, 'q, M, N, C: Column> PricedCase<'a, 'q, M, N, C> {
         let Some(branch) = self.case.branches.get(row) else {
             return false;
         };
-        branch.service & (branch.rating.0 == 0) & (self.prices.congestion.at(row) != 0)
+        branch.service & (branch.rating.0 == 0) & (self.prices.congestion.column.at(row) != 0)
     }
 
     // Whether the branch in that row is in service and its weight too large.

@@ -8,7 +8,6 @@ ghost use Rattle.pricing.specs.Kept.{prices_of, kept_price, kept_angle_price, ke
 
 use measure::AnglePrice;
 use measure::column::Column;
-use measure::price::Price;
 use measure::range::{keep, only_if};
 use measure::rows::sum;
 use network::branch::Branch;
@@ -37,25 +36,25 @@ impl<'a, 'q, M, N, C: Column> PricedCase<'a, 'q, M, N, C> {
     pub(crate) fn price_at(&self, row: usize) -> i64
         ensures { result ≡ price (case_of self.now.case) (kept_prices (prices_of C.value self.now.prices.now)) row }
     {
-        let price = Price::kept(self.prices.bus.at(row)).get();
+        let price = self.prices.bus.kept(row).get();
         only_if(row < usize::from(self.case.bus_count()), price)
     }
 
     // The congestion price of the branch in that row.
     pub(crate) fn congestion_at(&self, row: usize) -> i64
-        ensures { result ≡ kept_price (C.value self.now.prices.now.congestion row) }
+        ensures { result ≡ kept_price (C.value self.now.prices.now.congestion.column row) }
     {
-        Price::kept(self.prices.congestion.at(row)).get()
+        self.prices.congestion.kept(row).get()
     }
 
     // The angle price of the branch in that row.
     pub(crate) fn angle_price_at(&self, row: usize) -> i64
-        ensures { result ≡ kept_angle_price (C.value self.now.prices.now.angle row) }
+        ensures { result ≡ kept_angle_price (C.value self.now.prices.now.angle.column row) }
     {
         keep(
             -AnglePrice::LIMIT,
             AnglePrice::LIMIT,
-            self.prices.angle.at(row),
+            self.prices.angle.at(row).0,
         )
     }
 

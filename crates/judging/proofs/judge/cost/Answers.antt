@@ -36,8 +36,8 @@ returns-in-Ok g c =
     let b = within g.N.Machine.meaning g.met.N.Machine.lawful _ _ _ c.used-second.ensures.few second in
     let e : to_z w64 (of_z w64 (to_z w64 (of_z w64 c.in_ok-one.one.0) +ℤ to_z w64 (of_z w64 c.in-Ok.other.0))) ≡ c.in_ok-one.one.0 +ℤ c.in-Ok.other.0 = omega (arith, ints, a.0, a.1, b.0, b.1) in (
       (
-        subst (λ ms. AllowedAll g.M.Machine.meaning ms (g.C.Column.value c.args.dispatch.now.first)) c.used-first.ensures.exact first.allowed,
-        subst (λ ms. AllowedAll g.N.Machine.meaning ms (g.C.Column.value c.args.dispatch.now.second)) c.used-second.ensures.exact second.allowed,
+        subst (λ ms. AllowedAll g.M.Machine.meaning ms (g.C.Column.value c.args.dispatch.now.first.column)) c.used-first.ensures.exact first.allowed,
+        subst (λ ms. AllowedAll g.N.Machine.meaning ms (g.C.Column.value c.args.dispatch.now.second.column)) c.used-second.ensures.exact second.allowed,
       ),
-      e ∙ ap₂ ◌+ℤ◌ (first.counted ∙ ap (λ ms. counted_cost g.M.Machine.meaning ms (g.C.Column.value c.args.dispatch.now.first)) c.used-first.ensures.exact) (second.counted ∙ ap (λ ms. counted_cost g.N.Machine.meaning ms (g.C.Column.value c.args.dispatch.now.second)) c.used-second.ensures.exact),
+      e ∙ ap₂ ◌+ℤ◌ (first.counted ∙ ap (λ ms. counted_cost g.M.Machine.meaning ms (g.C.Column.value c.args.dispatch.now.first.column)) c.used-first.ensures.exact) (second.counted ∙ ap (λ ms. counted_cost g.N.Machine.meaning ms (g.C.Column.value c.args.dispatch.now.second.column)) c.used-second.ensures.exact),
     )

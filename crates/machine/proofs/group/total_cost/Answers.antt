@@ -1,6 +1,5 @@
-use Rattle.std.proofs.Common.{◌≡◌, ℕ, Option, None, Result, Err, sym, ap, ◌∙◌, subst, arith, w64, SFits}
+use Rattle.std.proofs.Common.{◌≡◌, ℕ, Option, None, Result, Err, sym, ap, ◌∙◌, subst, arith}
 use borrow.Author.Differences.{ints}
-use Rattle.std.proofs.lemmas.Int.{to_z-of_z}
 use Rattle.std.specs.Option.{ok_or}
 use Rattle.std.specs.Result.{result_ok}
 use Rattle.std.proofs.lemmas.Option.{MatchOption-at_none, MatchOption-at_some}
@@ -21,11 +20,10 @@ returns-in_err-cost g c =
     let p = err_from_is_err_and c.from_residual.result c.from_residual.ensures.1 in
     let o = c.ok_or.ensures.ok_part ∙ ap result_ok c.in_err-cost.was in
     let i : c.in_err-cost.field-0.0 ≡ c.loop-i.i = err_is c.cost.result c.ok_or.result _ _ o c.ok_or.ensures.value c.in_err-cost.was in
-    let f = subst (SFits w64) c.at.ensures (record { sfits = c.at.type_inv }) in
     rw (p.1, p.2, i) (record {
       item = c.index-machines-i.result;
       stands = stands_read c.args.machines.now c.loop-i.i c.index-machines-i.result c.loop-i-test.true c.index-machines-i.is;
-      holds = simp (to_z-of_z, f, c.at.ensures) at (MatchOption-at_none _ _ o c.cost.ensures);
+      holds = simp c.at.ensures at (MatchOption-at_none _ _ o c.cost.ensures);
     })
 
 pub overflow_add-total : goal.overflow_add-total
@@ -37,10 +35,9 @@ overflow_add-total g c =
 pub loop-i-preserved : goal.loop-i-preserved
 loop-i-preserved g c =
     let M = g.M.Machine.meaning in
-    let p = g.C.Column.value c.args.powers.now in
+    let p = g.C.Column.value c.args.powers.now.column in
     let m = c.index-machines-i.result in
-    let f = subst (SFits w64) c.at.ensures (record { sfits = c.at.type_inv }) in
-    let k = simp (to_z-of_z, f, c.at.ensures) at (MatchOption-at_some _ _ _ (c.ok_or.ensures.ok_part ∙ ap result_ok c.in_ok-cost.was) c.cost.ensures) in
+    let k = simp c.at.ensures at (MatchOption-at_some _ _ _ (c.ok_or.ensures.ok_part ∙ ap result_ok c.in_ok-cost.was) c.cost.ensures) in
     let r = (g.met.M.Machine.lawful m).answer_range (p c.loop-i.i) k.0 in
     let s = total_more c.args.machines.now c.loop-i.i m c.loop-i-test.true c.index-machines-i.is (λ (r : Row _). M.cost_answer r.item (p r.row)) in (
       omega (arith, ints, r, s, k.1, c.loop-i.invariant.0, c.loop-i.invariant.1, c.loop-i.total-is, c.loop-i-test.true, c.requires.few),
@@ -52,7 +49,7 @@ pub returns : goal.returns
 returns g c =
     let M = g.M.Machine.meaning in
     let ms = c.args.machines.now in
-    let p = g.C.Column.value c.args.powers.now in
+    let p = g.C.Column.value c.args.powers.now.column in
     let a = c.loop-i.invariant.2 (all_none ms c.loop-i.i c.loop-i-test.false (λ (r : Row _). M.Allowed r.item (whole (p r.row)))) in
     let e : _ ≡ counted_cost M ms p = omega (arith, ints, c.loop-i.invariant.0, c.loop-i.total-is, total_none ms c.loop-i.i c.loop-i-test.false (λ (r : Row _). M.cost_answer r.item (p r.row))) in
     record {

@@ -9,7 +9,7 @@ use Rattle.machine.proofs.group.total_cost.Given as goal
 abbrev pub invariant-loop-i : goal.invariant-loop-i
 invariant-loop-i g l =
     let M = g.M.Machine.meaning in
-    let p = g.C.Column.value l.powers in
+    let p = g.C.Column.value l.powers.column in
     (l.total +ℤ total (λ (r : Row _). M.cost_answer r.item (p r.row)) (numbered l.i (drop l.i l.machines)) ≡ counted_cost M l.machines p)
     × Within (l.i * 1000000000000000) l.total
     × (All (λ (r : Row _). M.Allowed r.item (whole (p r.row))) (numbered l.i (drop l.i l.machines)) → AllowedAll M l.machines p)

@@ -1,6 +1,5 @@
-use Rattle.std.proofs.Common.{◌≡◌, subst, arith, w64, SFits, to_z, of_z}
+use Rattle.std.proofs.Common.{arith}
 use borrow.Author.Differences.{ints}
-use Rattle.std.proofs.lemmas.Int.{to_z-of_z}
 use Rattle.std.proofs.lemmas.Option.{MatchOption-at_some}
 use Rattle.measure.specs.Rows.{Row}
 use Rattle.machine.proofs.Totals.{total_more, total_none}
@@ -15,12 +14,10 @@ overflow_add-total g c =
 pub loop-i-preserved : goal.loop-i-preserved
 loop-i-preserved g c =
     let M = g.M.Machine.meaning in
-    let p = g.C.Column.value c.args.prices.now in
+    let p = g.C.Column.value c.args.prices.now.column in
     let m = c.index-machines-i.result in
     let q = c.unwrap-price.result in
-    let f = subst (SFits w64) c.at.ensures (record { sfits = c.at.type_inv }) in
-    let known : q.value ≡ to_z w64 (of_z w64 c.at.result) = MatchOption-at_some _ _ q c.unwrap-price.ensures c.new.ensures in
-    let k = simp (to_z-of_z, f, c.at.ensures) at known in
+    let k = MatchOption-at_some _ _ q c.unwrap-price.ensures c.at.ensures in
     let r = (g.met.M.Machine.lawful m).margin_range q.value q.ok in
     let s = total_more c.args.machines.now c.loop-i.i m c.loop-i-test.true c.index-machines-i.is (λ (r : Row _). M.margin r.item (p r.row)) in
     let e = simp k at c.margin-total.ensures in (
@@ -31,5 +28,5 @@ loop-i-preserved g c =
 pub returns : goal.returns
 returns g c =
     let M = g.M.Machine.meaning in
-    let p = g.C.Column.value c.args.prices.now in
+    let p = g.C.Column.value c.args.prices.now.column in
     omega (arith, ints, c.loop-i.invariant.0, c.loop-i.total-is, total_none c.args.machines.now c.loop-i.i c.loop-i-test.false (λ (r : Row _). M.margin r.item (p r.row)))

@@ -11,5 +11,5 @@ returns g c =
     let s = c.args.self.now in
     let v = g.C.Column.value in
     let E = pos s.case.tolerance in
-    row_got false (unbalanced (case_of s.case) (v s.first.now) (v s.second.now) (angle_of s.angles.buses (v s.angles.given.now))) s.case.buses.now c.args.row c.in-Some.bus.now _ c.in-Some.ensures.lookup.3
+    row_got false (unbalanced (case_of s.case) (v s.first.now.column) (v s.second.now.column) (angle_of s.angles.buses (v s.angles.given.now.column))) s.case.buses.now c.args.row c.in-Some.bus.now _ c.in-Some.ensures.lookup.3
     (c.is_beyond.ensures ∙ ap (λ z. not (between (neg_ℤ E) E z)) (gave c.mismatch.type_inv c.mismatch.ensures))

@@ -9,4 +9,4 @@ pub returns : goal.returns
 returns g c =
     let s = c.args.self.now in
     let v = g.C.Column.value in
-    first_of-lowest (row_test (unbalanced (case_of s.case) (v s.first.now) (v s.second.now) (angle_of s.angles.buses (v s.angles.given.now))) s.case.buses.now) _ s.case.nb _ c.first_broken.ensures (λ i b l k. search rules)
+    first_of-lowest (row_test (unbalanced (case_of s.case) (v s.first.now.column) (v s.second.now.column) (angle_of s.angles.buses (v s.angles.given.now.column))) s.case.buses.now) _ s.case.nb _ c.first_broken.ensures (λ i b l k. search rules)

@@ -6,4 +6,4 @@ use Rattle.judging.proofs.flows.Flows.is_overloaded.Goals as goal
 pub returns : goal.returns
 returns g c =
     let s = c.args.self.now in
-    row_got false (overloaded_row (angle_of s.angles.buses (g.C.Column.value s.angles.given.now))) s.branches.now c.args.row c.in-Some.branch.now _ c.in-Some.ensures.lookup.3 c.exceeds_rating.ensures
+    row_got false (overloaded_row (angle_of s.angles.buses (g.C.Column.value s.angles.given.now.column))) s.branches.now c.args.row c.in-Some.branch.now _ c.in-Some.ensures.lookup.3 c.exceeds_rating.ensures

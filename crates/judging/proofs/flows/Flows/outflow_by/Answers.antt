@@ -6,5 +6,5 @@ use Rattle.judging.proofs.flows.Flows.outflow_by.Goals as goal
 
 pub leaving-requires : goal.leaving-requires
 leaving-requires g c =
-    let w = flow_within c.args.self.now.angles.buses (g.C.Column.value c.args.self.now.angles.given.now) c.args.branch.now in
+    let w = flow_within c.args.self.now.angles.buses (g.C.Column.value c.args.self.now.angles.given.now.column) c.args.branch.now in
     rw (gave c.flow.type_inv c.flow.ensures) (omega (arith, lin, w.0), omega (arith, lin, w.1))

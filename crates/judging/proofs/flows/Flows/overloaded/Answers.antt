@@ -7,4 +7,4 @@ use Rattle.judging.proofs.flows.Flows.overloaded.Goals as goal
 pub returns : goal.returns
 returns g c =
     let s = c.args.self.now in
-    first_of-lowest (row_test (overloaded_row (angle_of s.angles.buses (g.C.Column.value s.angles.given.now))) s.branches.now) _ s.count _ c.first_broken.ensures (λ i b l k. search rules)
+    first_of-lowest (row_test (overloaded_row (angle_of s.angles.buses (g.C.Column.value s.angles.given.now.column))) s.branches.now) _ s.count _ c.first_broken.ensures (λ i b l k. search rules)

@@ -2,6 +2,7 @@
 use build::rows::{BranchRow, BusRow};
 use curved::curved::Curved;
 use measure::column::Table;
+use measure::measured::{AngleColumn, AnglePriceColumn, PowerColumn, PriceColumn};
 use measure::{Microradians, Watts};
 use names::branch::BranchName;
 use network::dispatch::Dispatch;
@@ -66,15 +67,15 @@ pub struct Offer {
 impl Offer {
     pub(crate) fn dispatch(&self) -> Dispatch<Table<'_>> {
         Dispatch {
-            first: Table {
+            first: PowerColumn::new(Table {
                 values: &self.first,
-            },
-            second: Table {
+            }),
+            second: PowerColumn::new(Table {
                 values: &self.second,
-            },
-            angles: Table {
+            }),
+            angles: AngleColumn::new(Table {
                 values: &self.angles,
-            },
+            }),
         }
     }
 }
@@ -120,13 +121,17 @@ pub struct List {
 impl List {
     pub(crate) fn prices(&self) -> Prices<Table<'_>> {
         Prices {
-            bus: Table { values: &self.bus },
-            congestion: Table {
-                values: &self.congestion,
+            bus: PriceColumn {
+                column: Table { values: &self.bus },
             },
-            angle: Table {
+            congestion: PriceColumn {
+                column: Table {
+                    values: &self.congestion,
+                },
+            },
+            angle: AnglePriceColumn::new(Table {
                 values: &self.angle,
-            },
+            }),
         }
     }
 }

@@ -4,23 +4,12 @@ use curved::curved::Curved;
 use judging::judge::judge;
 use measure::Grains;
 use network::case::Case;
-use network::dispatch::Dispatch;
 use paper::dispatch::read_dispatch;
 use paper::prices::read_prices;
 use paper_file::call::{Call, call_of};
 use paper_file::papers::paper_len;
 use pricing::floor::floor;
 use stepped::stepped::Stepped;
-use word::column::WordColumn;
-
-// So many numbers of a column, from a row on, where each word is a row.
-fn part<'a>(column: WordColumn<'a>, from: usize, count: usize) -> WordColumn<'a> {
-    WordColumn {
-        start: column.start.saturating_add(from),
-        count,
-        ..column
-    }
-}
 
 // The case and a paper's words are handed on one by one: the words are others for each paper, so a struct of both would be made for each call.
 
@@ -29,12 +18,7 @@ fn cost_of(case: &Case<Stepped, Curved>, words: &[u32]) -> Result<Grains, Shown>
     let first = case.first.used().len();
     let second = case.second.used().len();
     let angles = usize::from(case.bus_count()).saturating_sub(1);
-    let paper = read_dispatch(words, first + second, angles)?;
-    let dispatch = Dispatch {
-        first: part(paper.powers, 0, first),
-        second: part(paper.powers, first, second),
-        angles: paper.angles,
-    };
+    let dispatch = read_dispatch(words, first, second, angles)?;
     Ok(judge(case, &dispatch)?)
 }
 

@@ -5,6 +5,7 @@ use machine::group::{total_cost, total_margin};
 use machine::machine::Machine;
 use measure::Watts;
 use measure::column::Table;
+use measure::measured::{PowerColumn, PriceColumn};
 use measure::price::Price;
 use std::process::Abort;
 use std::test::Fail;
@@ -16,7 +17,8 @@ struct AtPowers(i64, i64, Result<i64, usize>);
 
 fn cost_of_two<M: Machine>(machines: &[M; 2], first: i64, second: i64) -> Result<i64, usize> {
     let powers = [first, second];
-    total_cost(machines, &Table { values: &powers }).map(|grains| grains.0)
+    let powers = PowerColumn::new(Table { values: &powers });
+    total_cost(machines, &powers).map(|grains| grains.0)
 }
 
 // Not `check_costs`, which asks one machine for its cost and whether it allows a power: this asks a group for its sum, or the row that fails.
@@ -38,7 +40,8 @@ struct AtPrices(i64, i64, i64);
 
 fn margin_of_two<M: Machine>(machines: &[M; 2], first: Price, second: Price) -> i64 {
     let prices = [first.get(), second.get()];
-    total_margin(machines, &Table { values: &prices }).0
+    let column = Table { values: &prices };
+    total_margin(machines, &PriceColumn { column }).0
 }
 
 // Not `check_margins` either: a group's sum, at a price for each machine.

@@ -3,6 +3,7 @@ use crate::setting::*;
 use build::rows::BranchRow;
 use judging::judge::judge;
 use measure::column::Table;
+use measure::measured::{AngleColumn, PowerColumn};
 use measure::{Microradians, Watts};
 use network::dispatch::Dispatch;
 use std::process::Abort;
@@ -16,10 +17,11 @@ fn check_offers(rt: &impl Abort, setting: Setting, offers: &[Offer]) -> Result<(
     let tables = setting.tables()?;
     let case = setting.case(&tables);
     for &Offer(first, second, angle, expected) in offers {
+        let (first, second, angles) = ([first], [second], [angle]);
         let dispatch = Dispatch {
-            first: Table { values: &[first] },
-            second: Table { values: &[second] },
-            angles: Table { values: &[angle] },
+            first: PowerColumn::new(Table { values: &first }),
+            second: PowerColumn::new(Table { values: &second }),
+            angles: AngleColumn::new(Table { values: &angles }),
         };
         assert_eq!(rt;
             shown(judge(&case, &dispatch)),

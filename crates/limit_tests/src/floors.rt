@@ -2,6 +2,7 @@
 use crate::setting::*;
 use build::rows::BranchRow;
 use measure::column::Table;
+use measure::measured::{AnglePriceColumn, PriceColumn};
 use measure::{Microradians, Watts};
 use names::branch::BranchName;
 use network::prices::Prices;
@@ -34,11 +35,15 @@ fn check_lists<const BUSES: usize, const BRANCHES: usize>(
     let case = setting.case(&tables);
     for &List(bus, congestion, angle, expected) in lists {
         let prices = Prices {
-            bus: Table { values: &bus },
-            congestion: Table {
-                values: &congestion,
+            bus: PriceColumn {
+                column: Table { values: &bus },
             },
-            angle: Table { values: &angle },
+            congestion: PriceColumn {
+                column: Table {
+                    values: &congestion,
+                },
+            },
+            angle: AnglePriceColumn::new(Table { values: &angle }),
         };
         assert_eq!(rt;
             shown(floor(&case, &prices)),

@@ -1,13 +1,14 @@
 -- The places of a dispatch say what its words say; and a dispatch written out.
-use Rattle.std.proofs.Common.{◌≡◌, ℕ, ◌+◌, ◌≤◌, List, [], ◌∷◌, ◌++◌, map, length, get_or, take, drop, set, replicate, ℤ, pos, negsuc, sym, refl, ap, ◌∙◌, subst, add-one, ◌<◌, arith}
-use Rattle.std.proofs.lemmas.List.{length-append, length-map, length-replicate, append_assoc, ext_get_or}
+use Rattle.std.proofs.Common.{◌≡◌, ℕ, zero, suc, ◌+◌, ◌≤◌, zero-add, List, [], ◌∷◌, ◌++◌, map, length, get_or, take, drop, set, replicate, ℤ, pos, negsuc, sym, refl, ap, ◌∙◌, subst, add-one, ◌<◌, arith}
+use Rattle.std.proofs.lemmas.List.{length-append, length-map, length-replicate, length-take, length-drop, map-append, take-append-drop, append_assoc, ext_get_or}
 use Rattle.std.proofs.ByRecursion.{All-weaker}
+use Rattle.std.specs.List.{AllByRecursion}
 use Rattle.std.proofs.lemmas.Int.{ints}
 use Rattle.word.specs.Word.{amount_of, word_of, amount_word}
 use Rattle.word.specs.Laws.{Short}
 use Rattle.word.specs.Fault.{RefusedWord}
 use Rattle.word.specs.declared.fault.WordFault.{WordFault}
-use Rattle.word.specs.Slot.{Matches}
+use Rattle.word.specs.Slot.{Matches, Possible}
 use Rattle.word.specs.Run.{in_turn}
 use Rattle.word.specs.Column.{column_value, value_of}
 use Rattle.word.specs.declared.kind.Kind.TheVariants as kind
@@ -17,9 +18,10 @@ use Rattle.word.proofs.Fillings.{head_word, head_fits, end_fits, last_word, run_
 use Rattle.word.proofs.Slots.{matches_join, matches_parts}
 use Rattle.paper.specs.Range.{Power, Angle, power_slot, angle_slot}
 use Rattle.paper.specs.Dispatch.{Dispatch, dispatch_words, InUnits, LawfulDispatch, DispatchForm, ReadsDispatch}
-use Rattle.paper.specs.declared.dispatch.DispatchPaper.{DispatchPaper}
+use Rattle.word.specs.declared.column.WordColumn.{WordColumn}
+use Rattle.network.specs.declared.dispatch.Dispatch as view
 use Rattle.paper.specs.Write.{dispatch_of, ReadsBack}
-use Rattle.paper.proofs.Layouts.{Layout, refused, all_same, power_short, angle-short, form_exact}
+use Rattle.paper.proofs.Layouts.{Layout, possible, refused, all_same, power_short, angle-short, form_exact}
 use Rattle.std.proofs.lemmas.List.{set_split}
 use Rattle.std.proofs.Math.Seq.{paste}
 use Rattle.std.proofs.lemmas.List.Edits.{length-paste, paste_all, paste-paste}
@@ -77,16 +79,32 @@ dispatch-some n m =
 pub dispatch_layout : (n m : ℕ) → Layout (DispatchForm n m) (dispatch_slots n m)
 dispatch_layout n m = record { to = dispatch-to n m; from = dispatch-from n m; some = dispatch-some n m }
 
+-- the places of both groups' powers, one after the other, are those of all powers
+abbrev pub group_slots : ℕ → ℕ → ℕ → List Slot
+group_slots n k m = Head 2 ∷ (in_turn n power_slot power_slot ++ (in_turn k power_slot power_slot ++ (in_turn m angle_slot angle_slot ++ (End ∷ []))))
+
+turns_join : (s : Slot) (n k : ℕ) (r : List Slot) → in_turn n s s ++ (in_turn k s s ++ r) ≡ in_turn (n + k) s s ++ r
+turns_join s zero k r = ap (λ (j : ℕ). in_turn j s s ++ r) (sym (zero-add k))
+turns_join s (suc n) k r =
+    let e : suc (n + k) ≡ suc n + k = omega arith in
+    ap (λ (l : List Slot). s ∷ l) (turns_join s n k r) ∙ ap (λ (j : ℕ). in_turn j s s ++ r) e
+
+pub groups_are : (n k m : ℕ) → group_slots n k m ≡ dispatch_slots (n + k) m
+groups_are n k m = ap (λ (l : List Slot). Head 2 ∷ l) (turns_join power_slot n k (in_turn m angle_slot angle_slot ++ (End ∷ [])))
+
 words_length : (d : Dispatch) → length (dispatch_words d) ≡ length d.powers + length d.angles + 2
 words_length d = simp (length-append, length-map) (omega arith)
 
-pub dispatch_long : (n m : ℕ) (w : List ℕ) → Matches (dispatch_slots n m) w → length w ≡ n + m + 2
-dispatch_long n m w s =
+long_of : (n m : ℕ) (w : List ℕ) → Matches (dispatch_slots n m) w → length w ≡ n + m + 2
+long_of n m w s =
     let d = dispatch-to n m w s in
     let a = d.1.machines in
     let b = d.1.buses in
     let k = words_length d.0 in
     ap length d.2 ∙ (omega arith)
+
+pub dispatch_long : (n k m : ℕ) (w : List ℕ) → Matches (group_slots n k m) w → length w ≡ n + k + m + 2
+dispatch_long n k m w s = long_of (n + k) m w (subst (λ (ss : List Slot). Matches ss w) (groups_are n k m) s)
 
 -- the numbers at the places of each run are those of the dispatch
 module _ (n m : ℕ) (w : List ℕ) (d : Dispatch) (l : LawfulDispatch n m d) (e : w ≡ dispatch_words d) where
@@ -101,15 +119,63 @@ module _ (n m : ℕ) (w : List ℕ) (d : Dispatch) (l : LawfulDispatch n m d) (e
       column_run w (word_of kind.Head 2 ∷ map amount_word d.powers) d.angles (word_of kind.End 0 ∷ []) (1 + n) m i e (omega arith) l.buses
       (All-weaker Angle Short angle-short d.angles l.units.angles)
 
-pub reads_dispatch : (n m : ℕ) (w : List ℕ) (p : DispatchPaper) → Matches (dispatch_slots n m) w → ((i : ℕ) → value_of p.powers i ≡ column_value w 1 n 1 i) → ((i : ℕ) → value_of p.angles i ≡ column_value w (1 + n) m 1 i) → ReadsDispatch n m w p
-reads_dispatch n m w p s f g =
-    let d = dispatch-to n m w s in
+all_first : {X : Type 0} (P : X → Type 0) (n : ℕ) (xs : List X) → AllByRecursion P xs → AllByRecursion P (take n xs)
+all_first P zero xs h = tt
+all_first P (suc n) [] h = tt
+all_first P (suc n) (x ∷ xs) h = (h.0, all_first P n xs h.1)
+
+all_after : {X : Type 0} (P : X → Type 0) (n : ℕ) (xs : List X) → AllByRecursion P xs → AllByRecursion P (drop n xs)
+all_after P zero xs h = h
+all_after P (suc n) [] h = tt
+all_after P (suc n) (x ∷ xs) h = all_after P n xs h.1
+
+-- the numbers at the places of each group are its powers
+module _ (n k m : ℕ) (w : List ℕ) (d : Dispatch) (l : LawfulDispatch (n + k) m d) (e : w ≡ dispatch_words d) where
+  tail : List ℕ
+  tail = map amount_word d.angles ++ (word_of kind.End 0 ∷ [])
+
+  shorts : AllByRecursion Short d.powers
+  shorts = All-weaker Power Short power_short d.powers l.units.powers
+
+  cut : map amount_word d.powers ≡ map amount_word (take n d.powers) ++ map amount_word (drop n d.powers)
+  cut = ap (map amount_word) (sym (take-append-drop n d.powers)) ∙ map-append amount_word (take n d.powers) (drop n d.powers)
+
+  in_groups : w ≡ word_of kind.Head 2 ∷ (map amount_word (take n d.powers) ++ (map amount_word (drop n d.powers) ++ tail))
+  unfolding tail
+  in_groups =
+      e ∙ ap (λ (x : List ℕ). word_of kind.Head 2 ∷ (x ++ tail)) cut
+      ∙ ap (λ (x : List ℕ). word_of kind.Head 2 ∷ x) (append_assoc (map amount_word (take n d.powers)) (map amount_word (drop n d.powers)) tail)
+
+  first_long : length (take n d.powers) ≡ n
+  first_long = omega (arith, length-take n d.powers, l.machines)
+
+  second_long : length (drop n d.powers) ≡ k
+  second_long = omega (arith, length-drop n d.powers, l.machines)
+
+  first_at : (i : ℕ) → column_value w 1 n 1 i ≡ get_or (take n d.powers) i (pos 0)
+  unfolding tail
+  first_at i =
+      column_run w (word_of kind.Head 2 ∷ []) (take n d.powers) (map amount_word (drop n d.powers) ++ tail) 1 n i in_groups refl first_long
+      (all_first Short n d.powers shorts)
+
+  second_at : (i : ℕ) → column_value w (1 + n) k 1 i ≡ get_or (drop n d.powers) i (pos 0)
+  unfolding tail
+  second_at i =
+      let j : length (map amount_word (take n d.powers)) ≡ n = length-map (take n d.powers) amount_word ∙ first_long in
+      column_run w (word_of kind.Head 2 ∷ map amount_word (take n d.powers)) (drop n d.powers) tail (1 + n) k i in_groups (omega arith) second_long
+      (all_after Short n d.powers shorts)
+
+pub reads_dispatch : (n k m : ℕ) (w : List ℕ) (p : view.Dispatch WordColumn) → Matches (group_slots n k m) w → ((i : ℕ) → value_of p.first.column i ≡ column_value w 1 n 1 i) → ((i : ℕ) → value_of p.second.column i ≡ column_value w (1 + n) k 1 i) → ((i : ℕ) → value_of p.angles.column i ≡ column_value w (1 + n + k) m 1 i) → ReadsDispatch n k m w p
+reads_dispatch n k m w p s f g h =
+    let d = dispatch-to (n + k) m w (subst (λ (ss : List Slot). Matches ss w) (groups_are n k m) s) in
+    let j : 1 + n + k ≡ 1 + (n + k) = omega arith in
     record {
       dispatch = d.0;
       lawful = d.1;
       words = d.2;
-      powers = λ i. f i ∙ powers_at n m w d.0 d.1 d.2 i;
-      angles = λ i. g i ∙ angles_at n m w d.0 d.1 d.2 i;
+      first = λ i. f i ∙ first_at n k m w d.0 d.1 d.2 i;
+      second = λ i. g i ∙ second_at n k m w d.0 d.1 d.2 i;
+      angles = λ i. h i ∙ ap (λ (x : ℕ). column_value w x m 1 i) j ∙ angles_at (n + k) m w d.0 d.1 d.2 i;
     }
 
 -- two dispatches of the same counts with the same words are the same
@@ -165,5 +231,9 @@ written f t l₀ l₁ l₂ h e room eh ee e₁ e₂ =
     let z : 0 + (((1 + n) + m) + 1) ≡ ((1 + n) + m) + 1 = omega arith in
     a₃ ∙ paste_all l₀ 0 (h ∷ ((A ++ C) ++ (e ∷ []))) (((1 + n) + m) + 1) k ∙ (λ i. w i ++ drop (z i) l₀)
 
-pub dispatch_refused : (n m : ℕ) (w : List ℕ) (f : WordFault) → RefusedWord (Matches (dispatch_slots n m)) w f → RefusedWord (DispatchForm n m) w f
-dispatch_refused n m w f r = refused _ _ (dispatch_layout n m) w f r
+pub dispatch_refused : (n k m : ℕ) (w : List ℕ) (f : WordFault) → RefusedWord (Matches (group_slots n k m)) w f → RefusedWord (DispatchForm (n + k) m) w f
+dispatch_refused n k m w f r =
+    refused _ _ (dispatch_layout (n + k) m) w f (subst (λ (ss : List Slot). RefusedWord (Matches ss) w f) (groups_are n k m) r)
+
+pub groups_possible : (n k m : ℕ) → Possible (group_slots n k m)
+groups_possible n k m = subst Possible (sym (groups_are n k m)) (possible _ _ (dispatch_layout (n + k) m))

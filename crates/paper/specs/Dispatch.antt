@@ -1,12 +1,13 @@
 -- The paper of a dispatch.
-use Rattle.std.specs.Prelude.{◌≡◌, ℕ, List, [], ◌∷◌, ◌++◌, map, length, ℤ}
+use Rattle.std.specs.Prelude.{◌≡◌, ℕ, ◌+◌, take, drop, List, [], ◌∷◌, ◌++◌, map, length, ℤ}
 use Rattle.std.specs.List.{AllByRecursion}
 use Rattle.word.specs.Word.{word_of, amount_word}
 use Rattle.word.specs.Form.{Form}
 use Rattle.word.specs.Column.{Gives}
 use Rattle.word.specs.declared.kind.Kind.TheVariants as kind
 use Rattle.paper.specs.Range.{Power, Angle}
-use Rattle.paper.specs.declared.dispatch.DispatchPaper.{DispatchPaper}
+use Rattle.word.specs.declared.column.WordColumn.{WordColumn}
+use Rattle.network.specs.declared.dispatch.Dispatch as view
 
 -- the powers of both groups, and the angle of every bus but the first
 pub record Dispatch : Type 0 where
@@ -32,10 +33,12 @@ pub record LawfulDispatch (n m : ℕ) (d : Dispatch) : Type 0 where
 abbrev pub DispatchForm : ℕ → ℕ → Form
 DispatchForm n m w = (d : Dispatch) × LawfulDispatch n m d × (w ≡ dispatch_words d)
 
--- the words are those of a lawful dispatch, and the paper's columns give its numbers
-pub record ReadsDispatch (n m : ℕ) (w : List ℕ) (p : DispatchPaper) : Type 0 where
+-- the words are those of a lawful dispatch, of which the first n powers are the first group's and the k others the second's; and the columns that
+-- are read give its numbers
+pub record ReadsDispatch (n k m : ℕ) (w : List ℕ) (d : view.Dispatch WordColumn) : Type 0 where
   pub dispatch : Dispatch
-  pub lawful : LawfulDispatch n m dispatch
+  pub lawful : LawfulDispatch (n + k) m dispatch
   pub words : w ≡ dispatch_words dispatch
-  pub powers : Gives p.powers dispatch.powers
-  pub angles : Gives p.angles dispatch.angles
+  pub first : Gives d.first.column (take n dispatch.powers)
+  pub second : Gives d.second.column (drop n dispatch.powers)
+  pub angles : Gives d.angles.column dispatch.angles

@@ -45,9 +45,9 @@ PricesForm n m w = (l : Prices) × LawfulPrices n m l × (w ≡ prices_words l)
 
 -- the paper's columns give the list's numbers
 pub record GivesPrices (l : Prices) (p : view.Prices WordColumn) : Type 0 where
-  pub prices : Gives p.bus l.buses
-  pub congestion : Gives p.congestion (map (λ b. b.congestion) l.branches)
-  pub angle : Gives p.angle (map (λ b. b.angle) l.branches)
+  pub prices : Gives p.bus.column l.buses
+  pub congestion : Gives p.congestion.column (map (λ b. b.congestion) l.branches)
+  pub angle : Gives p.angle.column (map (λ b. b.angle) l.branches)
 
 -- the words are those of a lawful list, and the paper's columns give its numbers
 pub record ReadsPrices (n m : ℕ) (w : List ℕ) (p : view.Prices WordColumn) : Type 0 where
@@ -62,6 +62,6 @@ branch_run m = record { count = 2 * m; slot = price_slot; other = angle_price_sl
 
 -- the columns of the words from a place on
 pub record ColumnsFrom (start n m : ℕ) (w : List ℕ) (p : view.Prices WordColumn) : Type 0 where
-  pub prices : (i : ℕ) → value_of p.bus i ≡ column_value w start n 1 i
-  pub congestion : (i : ℕ) → value_of p.congestion i ≡ column_value w (start + n) m 2 i
-  pub angle : (i : ℕ) → value_of p.angle i ≡ column_value w (start + n + 1) m 2 i
+  pub prices : (i : ℕ) → value_of p.bus.column i ≡ column_value w start n 1 i
+  pub congestion : (i : ℕ) → value_of p.congestion.column i ≡ column_value w (start + n) m 2 i
+  pub angle : (i : ℕ) → value_of p.angle.column i ≡ column_value w (start + n + 1) m 2 i

@@ -4,6 +4,7 @@ ghost use Rattle.word.specs.Fault.{RefusedWord};
 ghost use Rattle.paper.specs.Prices.{branch_run, ColumnsFrom, PricesForm, ReadsPrices};
 
 use crate::columns::column;
+use measure::measured::{AnglePriceColumn, PriceColumn};
 use network::prices::Prices;
 use word::column::WordColumn;
 use word::fault::WordFault;
@@ -37,9 +38,13 @@ pub fn price_columns<'a>(
 {
     let after = start + usize::from(buses);
     Prices {
-        bus: column::<1>(words, start, usize::from(buses)),
-        congestion: column::<2>(words, after, usize::from(branches)),
-        angle: column::<2>(words, after + 1, usize::from(branches)),
+        bus: PriceColumn {
+            column: column::<1>(words, start, usize::from(buses)),
+        },
+        congestion: PriceColumn {
+            column: column::<2>(words, after, usize::from(branches)),
+        },
+        angle: AnglePriceColumn::new(column::<2>(words, after + 1, usize::from(branches))),
     }
 }
 

@@ -25,13 +25,13 @@ fn dispatches(rt: HostRuntime) -> Result<(), Fail> {
         expect(&[0x1000_0002, A, A, A, END + 5], 4, 4),
         expect(&[0x1000_0002, A, A, A, END, A], 7, 5),
     ];
-    check_rows(&rt, &table, |words| outcome(read_dispatch(words, 2, 1)));
+    check_rows(&rt, &table, |words| outcome(read_dispatch(words, 1, 1, 1)));
     let words = [0x1000_0002, A + 600, A + 400, 0x6fff_ffc4, END];
-    let paper = read_dispatch(&words, 2, 1)?;
-    assert_eq!(rt; paper.powers.at(0), 600);
-    assert_eq!(rt; paper.powers.at(1), 400);
-    assert_eq!(rt; paper.powers.at(2), 0);
-    assert_eq!(rt; paper.angles.at(0), -60);
+    let paper = read_dispatch(&words, 1, 1, 1)?;
+    assert_eq!(rt; paper.first.at(0).0, 600);
+    assert_eq!(rt; paper.second.at(0).0, 400);
+    assert_eq!(rt; paper.second.at(1).0, 0);
+    assert_eq!(rt; paper.angles.at(0).0, -60);
     Ok(())
 }
 
@@ -54,12 +54,12 @@ fn price_lists(rt: HostRuntime) -> Result<(), Fail> {
     check_rows(&rt, &table, |words| outcome(read_prices(words, 2, 2)));
     let words = [0x1000_0003, A + 30, A + 31, A + 1, A + 2, A + 3, A + 4, END];
     let paper = read_prices(&words, 2, 2)?;
-    assert_eq!(rt; paper.bus.at(1), 31);
-    assert_eq!(rt; paper.congestion.at(0), 1);
-    assert_eq!(rt; paper.congestion.at(1), 3);
-    assert_eq!(rt; paper.angle.at(0), 2);
-    assert_eq!(rt; paper.angle.at(1), 4);
-    assert_eq!(rt; paper.angle.at(2), 0);
+    assert_eq!(rt; paper.bus.column.at(1), 31);
+    assert_eq!(rt; paper.congestion.column.at(0), 1);
+    assert_eq!(rt; paper.congestion.column.at(1), 3);
+    assert_eq!(rt; paper.angle.column.at(0), 2);
+    assert_eq!(rt; paper.angle.column.at(1), 4);
+    assert_eq!(rt; paper.angle.column.at(2), 0);
     Ok(())
 }
 
@@ -86,9 +86,9 @@ fn trials(rt: HostRuntime) -> Result<(), Fail> {
             to: 2,
         }
     );
-    assert_eq!(rt; paper.list.bus.at(0), 7);
-    assert_eq!(rt; paper.list.congestion.at(0), 8);
-    assert_eq!(rt; paper.list.angle.at(0), 9);
+    assert_eq!(rt; paper.list.bus.column.at(0), 7);
+    assert_eq!(rt; paper.list.congestion.column.at(0), 8);
+    assert_eq!(rt; paper.list.angle.column.at(0), 9);
     Ok(())
 }
 

@@ -17,10 +17,10 @@ fn check_offers(rt: &impl Abort, setting: Setting, offers: &[Offer]) -> Result<(
     let tables = setting.tables()?;
     let case = setting.case(&tables);
     for &Offer(first, second, angle, expected) in offers {
-        let (first, second, angles) = ([first], [second], [angle]);
+        let (powers, others, angles) = ([first], [second], [angle]);
         let dispatch = Dispatch {
-            first: PowerColumn::new(Table { values: &first }),
-            second: PowerColumn::new(Table { values: &second }),
+            first: PowerColumn::new(Table { values: &powers }),
+            second: PowerColumn::new(Table { values: &others }),
             angles: AngleColumn::new(Table { values: &angles }),
         };
         assert_eq!(rt;

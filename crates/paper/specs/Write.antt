@@ -2,7 +2,16 @@
 use Rattle.std.specs.Prelude.{◌≡◌, ℕ, ◌+◌, List, ◌++◌, length, drop, ℤ}
 use Rattle.word.specs.declared.fault.WordRefusal.{WordRefusal}
 use Rattle.word.specs.Form.{Refused}
+use Rattle.paper.specs.declared.write.WriteRefusal.{WriteRefusal}
+use Rattle.paper.specs.declared.write.WriteRefusal.TheVariants.{TooShort}
 use Rattle.paper.specs.Dispatch.{Dispatch, dispatch_words, InUnits, LawfulDispatch, DispatchForm}
+
+-- the number and the place of a refusal to write
+abbrev pub write_number : WriteRefusal → ℕ
+write_number TooShort = 18
+
+abbrev pub write_place : WriteRefusal → ℕ
+write_place TooShort = 0
 
 abbrev pub dispatch_of : List ℤ → List ℤ → Dispatch
 dispatch_of powers angles = record { powers = powers; angles = angles }

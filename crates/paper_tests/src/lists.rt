@@ -5,7 +5,7 @@ use names::branch::BranchName;
 use paper::dispatch::read_dispatch;
 use paper::prices::read_prices;
 use paper::trial::read_trial;
-use paper::write::{TooShort, write_dispatch};
+use paper::write::{WriteRefusal, write_dispatch};
 use std::test::Fail;
 
 // two machines and one bus after the first
@@ -102,6 +102,8 @@ fn written_dispatches(rt: HostRuntime) {
     assert_eq!(rt; list[5], 9);
     assert_eq!(rt;
         write_dispatch(&[600, 400], &[-60], &mut list[0..4]),
-        Err(TooShort)
+        Err(WriteRefusal::TooShort)
     );
+    let refusal = WriteRefusal::TooShort;
+    assert_eq!(rt; (refusal.number(), refusal.place()), (18, 0));
 }

@@ -24,7 +24,8 @@ fn check_ranges<R: Ranged>(rows: &[R]) -> Result<(), Refusal>
     }
 }
 
-// Refuses the lowest branch whose limits are crossed.
+// Refuses the lowest branch whose limits are crossed. Each of these tests has its own search and its own refusal; one function of both would take two
+// closures, and its clause speak of them.
 fn check_limits(rows: &[BranchRow]) -> Result<(), Refusal>
     ensures { MatchResult result (λ _. Lowest (BranchCrossed rows.now) None) (λ e. RowRefused Crossed (BranchCrossed rows.now) e) }
 {

@@ -106,6 +106,7 @@ impl BranchRow {
     }
 }
 
+// The name of a row, as of a bus and of a branch: the body is the same for each, as a trait can't say that a type has such a field.
 impl Named for BusRow {
     type Kind = u32;
 

@@ -20,7 +20,7 @@ pub struct Tally<'a> {
 }
 
 impl Tally<'_> {
-    // How many records of the sort of this rank the head says, 0 where its word is not there.
+    // How many records of the sort of this rank the head says, 0 where its word is not there. By `as`: 32 bits have no `From` to a `usize`.
     pub fn head_count(&self, rank: usize) -> usize
         requires { rank < 4 }
         ensures { result ≡ head_count self.now.words.now rank }

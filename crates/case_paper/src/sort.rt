@@ -63,6 +63,7 @@ impl Sort {
     {
         match kind_of(word) {
             Kind::Bus => Sort::Bus,
+            // By `as`: 32 bits have no `From` to a `usize`.
             Kind::Stepped => Sort::Stepped((payload(word) / 256) as usize),
             Kind::Curved => Sort::Curved,
             _ => Sort::Branch,
@@ -138,6 +139,7 @@ pub fn opens_record(word: u32) -> bool
 {
     let p = payload(word);
     match kind_of(word) {
+        // 2 to 8 points, as a number in a word; `MOST_POINTS` is the length of an array.
         Kind::Stepped => (2..=8).contains(&(p / 256)) && may_name(p % 256),
         Kind::Bus | Kind::Curved => may_name(p),
         Kind::Branch => branch_name(word).is_in_range(),

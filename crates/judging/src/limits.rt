@@ -12,7 +12,8 @@ use measure::rows::first_broken;
 use network::branch::Branch;
 
 impl<'a, C: Column> Angles<'a, C> {
-    // Whether the angle given for the bus in that row is out of range; none is given for the reference.
+    // Whether the angle given for the bus in that row is out of range; none is given for the reference. By `is_between`, as for a rating below: both limits
+    // are numbers of 64 bits, where `is_beyond` takes 32.
     fn is_out_of_range(&self, row: usize) -> bool
         ensures { result ≡ angle_beyond (C.value self.now.given.now.column) row }
     {

@@ -14,7 +14,7 @@ pub enum Head {
 }
 
 impl Head {
-    // Its payload.
+    // Its payload, by the enum's own number. By `as`: an enum has no `From` to its number.
     pub fn number(self) -> u32
         ensures { result ≡ head_number self }
     {

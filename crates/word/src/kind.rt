@@ -16,7 +16,7 @@ pub enum Kind {
 }
 
 impl Kind {
-    // Its top four bits; 0 for the kind that no word of a paper has.
+    // Its top four bits, by the enum's own number; 0 for the kind that no word of a paper has. By `as`: an enum has no `From` to its number.
     pub fn number(self) -> u32
         ensures { result ≡ kind_number self }
     {

@@ -39,6 +39,7 @@ const MAY_STAND: [[bool; 8]; 9] = [
     [false, false, false, false, false, true, false, true],
 ];
 
+// By `as`: an enum has no `From` to its number.
 pub fn may_stand(place: Place, kind: Kind) -> bool
     ensures { result ≡ may_stand place kind }
 {

@@ -68,7 +68,8 @@ fn check_machines<M: Machine>(
     requires { before + length machines.now ≤ 1000 }
     ensures { MatchResult result (λ _. Lowest (MachineUnknown M.meaning buses.now.rows.now machines.now) None) (λ e. UnknownRow before (MachineUnknown M.meaning buses.now.rows.now machines.now) e) }
 {
-    // The row is part of the refusal. A name that is looked up and is not there is met by `let .. else`, the project's form for it.
+    // The row is part of the refusal. A name that is looked up and is not there is met by `let .. else`, a form that
+    // docs/DECISIONS.md lists.
     for (i, machine) in machines.iter().enumerate() {
         let Some(_row) = buses.place_of(machine) else {
             return Err(Refusal::UnknownBus(before + i));

@@ -122,7 +122,7 @@ pub fn floor_without<M: Machine, N: Machine, C: Column>(
     ensures floored { FlooredWithout M.meaning N.meaning (stations_with stations.entry branches.old) (prices_of C.value prices.now) name result }
     ensures unchanged { branches.new ≡ branches.old }
 {
-    // By `let .. else`, the form that the project asks for at a name that is looked up.
+    // By `let .. else`, the form for a name that is looked up (docs/DECISIONS.md).
     let Some(row) = row_of(branches, stations.nl, &name) else {
         return Err(Refusal::NotInCase);
     };

@@ -56,7 +56,8 @@ pub(crate) struct Pieces<'a> {
 }
 
 impl<'a> Pieces<'a> {
-    // The pieces from the next point on, or none where the line is the last. By slice patterns, the form that the project asks for.
+    // The pieces from the next point on, or none where the line is the last. By slice patterns, a form that docs/DECISIONS.md
+    // lists.
     fn next(self) -> Option<Pieces<'a>>
         ensures { MatchOption result ((self.entry.points.now ≡ []) ⊎ (self.entry.slopes.now ≡ [])) (λ n. (n.line.cost ≡ self.entry.line.cost +ℤ self.entry.line.slope *ℤ (n.line.from.watts -ℤ self.entry.line.from.watts)) × (self.entry.points.now ≡ n.line.from.watts ∷ n.points.now) × (self.entry.slopes.now ≡ n.line.slope ∷ n.slopes.now)) }
     {

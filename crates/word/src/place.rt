@@ -26,7 +26,7 @@ pub enum Place {
     Branches,
 }
 
-// A constant table, which the project asks for in place of a match on both. By place and kind, in their orders: unknown, head, bus, stepped, curved, branch, amount, end.
+// A constant table, not a match on both, by the forms that docs/DECISIONS.md lists. By place and kind, in their orders: unknown, head, bus, stepped, curved, branch, amount, end.
 const MAY_STAND: [[bool; 8]; 9] = [
     [false, true, false, false, false, false, false, false],
     [false, false, true, false, false, false, false, false],

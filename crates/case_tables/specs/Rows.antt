@@ -1,5 +1,6 @@
 -- The raw rows that the records of a case give.
 use Rattle.std.specs.Prelude.{◌≡◌, ℕ, ◌+◌, ◌-◌, ◌/◌, ◌%◌, List, ◌++◌, map, length, take, drop, replicate, ℤ, pos, ◌==◌, slice_index}
+use Rattle.measure.specs.declared.Watts.{Watts}
 use Rattle.word.specs.Word.{payload_of, amount_of}
 use Rattle.case_paper.specs.Case.{Record}
 use Rattle.case_paper.specs.Order.{amount_at}
@@ -29,6 +30,10 @@ points_of r = payload_of r.first / 256
 abbrev pub padded : ℕ → List ℤ → List ℤ
 padded n xs = xs ++ replicate (n - length xs) (pos 0)
 
+-- a power of so many watts
+abbrev pub powered : ℤ → Watts
+powered z = record { 0 = z }
+
 -- 256 × the number of points + a bus name; limits, first cost, points and slopes
 abbrev pub stepped_row : Record → Stepped
 stepped_row r =
@@ -38,7 +43,7 @@ stepped_row r =
       hi = record { 0 = amount_at r.amounts 1 };
       c = amount_at r.amounts 2;
       n = points_of r;
-      points = padded 8 (map amount_of (take (points_of r) (drop 3 r.amounts)));
+      points = map powered (padded 8 (map amount_of (take (points_of r) (drop 3 r.amounts))));
       slopes = padded 7 (map amount_of (drop (3 + points_of r) r.amounts));
     }
 

@@ -3,11 +3,12 @@ ghost use Rattle.std.specs.Prelude.{◌≡◌, ◌+◌, ◌-◌, ◌/◌, ◌≤
 ghost use Rattle.word.specs.Word.{payload_of, amount_of};
 ghost use Rattle.case_paper.specs.Case.{amounts_of};
 ghost use Rattle.case_paper.specs.declared.sort.Sort.TheVariants as sort;
-ghost use Rattle.case_tables.specs.Rows.{padded, record_of, bus_row, stepped_row, curved_row, branch_row};
+ghost use Rattle.case_tables.specs.Rows.{padded, powered, record_of, bus_row, stepped_row, curved_row, branch_row};
 
 use build::rows::{BranchRow, BusRow};
 use case_paper::sort::Sort;
 use curved::curved::Curved;
+use machine::limits::MOST_POINTS;
 use measure::{Microradians, Watts};
 use stepped::stepped::Stepped;
 use word::amount::amount;
@@ -25,6 +26,14 @@ fn amounts_in<const N: usize>(words: &[u32]) -> [i64; N]
         amounts[i] = amount(*word);
     }
     amounts
+}
+
+// The powers of the words, then zeros.
+fn powers_in(words: &[u32]) -> [Watts; MOST_POINTS]
+    requires { length words.now ≤ 8 }
+    ensures { result ≡ map powered (padded 8 (map amount_of words.now)) }
+{
+    amounts_in(words).map(Watts)
 }
 
 // The words of one record of this sort: its first word, and as many amounts as the sort has.
@@ -62,7 +71,7 @@ impl RecordWords<'_> {
             hi: Watts(amount(amounts[1])),
             c: amount(amounts[2]),
             n,
-            points: amounts_in(&amounts[3..3 + n]),
+            points: powers_in(&amounts[3..3 + n]),
             slopes: amounts_in(&amounts[3 + n..]),
         }
     }

@@ -77,8 +77,8 @@ fn a_case_is_read(rt: HostRuntime) {
         (
             stepped[0].hi.0,
             stepped[0].c,
-            stepped[0].points[1],
-            stepped[0].points[2],
+            stepped[0].points[1].0,
+            stepped[0].points[2].0,
             stepped[0].slopes[0],
         ),
         (200, 9, 100, 0, 3),

@@ -27,7 +27,16 @@ pub const STEPPED: [Stepped; 1] = [Stepped {
     hi: Watts(2000),
     c: 0,
     n: 3,
-    points: [0, 600, 2000, 0, 0, 0, 0, 0],
+    points: [
+        Watts(0),
+        Watts(600),
+        Watts(2000),
+        Watts(0),
+        Watts(0),
+        Watts(0),
+        Watts(0),
+        Watts(0),
+    ],
     slopes: [20, 50, 0, 0, 0, 0, 0],
 }];
 

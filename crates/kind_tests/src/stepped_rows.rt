@@ -13,7 +13,16 @@ fn limits_beyond_the_points(rt: HostRuntime) -> Result<(), Fail> {
         hi: Watts(2_600),
         c: 0,
         n: 3,
-        points: [0, 600, 2_000, 0, 0, 0, 0, 0],
+        points: [
+            Watts(0),
+            Watts(600),
+            Watts(2_000),
+            Watts(0),
+            Watts(0),
+            Watts(0),
+            Watts(0),
+            Watts(0),
+        ],
         slopes: [20, 50, 0, 0, 0, 0, 0],
     };
     let costs = [
@@ -57,7 +66,16 @@ fn limits_inside_the_points(rt: HostRuntime) -> Result<(), Fail> {
         hi: Watts(1_400),
         c: -2,
         n: 4,
-        points: [-1_000, 0, 700, 1_500, 0, 0, 0, 0],
+        points: [
+            Watts(-1_000),
+            Watts(0),
+            Watts(700),
+            Watts(1_500),
+            Watts(0),
+            Watts(0),
+            Watts(0),
+            Watts(0),
+        ],
         slopes: [-30, 5, 40, 0, 0, 0, 0],
     };
     let costs = [
@@ -102,7 +120,16 @@ fn most_points(rt: HostRuntime) -> Result<(), Fail> {
         hi: Watts(100_000_000),
         c: -100_000_000,
         n: 8,
-        points: [-100_000_000, -70, -9, 0, 1, 3, 500, 100_000_000],
+        points: [
+            Watts(-100_000_000),
+            Watts(-70),
+            Watts(-9),
+            Watts(0),
+            Watts(1),
+            Watts(3),
+            Watts(500),
+            Watts(100_000_000),
+        ],
         slopes: [-1_000_000, -7, -7, 0, 2, 9, 1_000_000],
     };
     let costs = [
@@ -152,7 +179,16 @@ fn fewest_points(rt: HostRuntime) -> Result<(), Fail> {
         hi: Watts(7),
         c: 3,
         n: 2,
-        points: [5, 9, 0, 0, 0, 0, 0, 0],
+        points: [
+            Watts(5),
+            Watts(9),
+            Watts(0),
+            Watts(0),
+            Watts(0),
+            Watts(0),
+            Watts(0),
+            Watts(0),
+        ],
         slopes: [4, 0, 0, 0, 0, 0, 0],
     };
     let costs = [
@@ -176,7 +212,16 @@ const SOUND: Stepped = Stepped {
     hi: Watts(10),
     c: 0,
     n: 3,
-    points: [0, 5, 10, 0, 0, 0, 0, 0],
+    points: [
+        Watts(0),
+        Watts(5),
+        Watts(10),
+        Watts(0),
+        Watts(0),
+        Watts(0),
+        Watts(0),
+        Watts(0),
+    ],
     slopes: [1, 2, 0, 0, 0, 0, 0],
 };
 
@@ -212,15 +257,42 @@ fn broken_rows_stand_idle(rt: HostRuntime) -> Result<(), Fail> {
         &rt,
         &[
             Stepped {
-                points: [-100_000_001, 5, 10, 0, 0, 0, 0, 0],
+                points: [
+                    Watts(-100_000_001),
+                    Watts(5),
+                    Watts(10),
+                    Watts(0),
+                    Watts(0),
+                    Watts(0),
+                    Watts(0),
+                    Watts(0),
+                ],
                 ..SOUND
             },
             Stepped {
-                points: [0, 5, 100_000_001, 0, 0, 0, 0, 0],
+                points: [
+                    Watts(0),
+                    Watts(5),
+                    Watts(100_000_001),
+                    Watts(0),
+                    Watts(0),
+                    Watts(0),
+                    Watts(0),
+                    Watts(0),
+                ],
                 ..SOUND
             },
             Stepped {
-                points: [0, 5, 5, 0, 0, 0, 0, 0],
+                points: [
+                    Watts(0),
+                    Watts(5),
+                    Watts(5),
+                    Watts(0),
+                    Watts(0),
+                    Watts(0),
+                    Watts(0),
+                    Watts(0),
+                ],
                 ..SOUND
             },
             Stepped {

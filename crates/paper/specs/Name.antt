@@ -1,6 +1,6 @@
 -- Names in words.
-use Rattle.std.specs.Prelude.{ℕ, ◌+◌, ◌*◌, ◌/◌, ◌%◌}
-use Rattle.word.specs.Word.{payload_of, word_of}
+use Rattle.std.specs.Prelude.{ℕ, ◌+◌, ◌*◌}
+use Rattle.word.specs.Word.{word_of}
 use Rattle.word.specs.Slot.{Byte}
 use Rattle.word.specs.declared.kind.Kind.TheVariants as kind
 use Rattle.names.specs.declared.branch.BranchName.{BranchName}

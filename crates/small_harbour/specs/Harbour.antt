@@ -1,5 +1,5 @@
 -- The small harbour: two buses, a stepped machine at the first, a curved one at the second, and one branch between them.
-use Rattle.std.specs.Prelude.{ℕ, zero, suc, Bool, [], ◌∷◌, ℤ, pos, negsuc}
+use Rattle.std.specs.Prelude.{map, ℕ, zero, suc, Bool, [], ◌∷◌, ℤ, pos, negsuc}
 use Rattle.std.proofs.Common.{lit≤}
 use Rattle.stepped.specs.declared.stepped.Stepped.{Stepped}
 use Rattle.curved.specs.declared.curved.Curved.{Curved}
@@ -17,7 +17,7 @@ stepped =
       hi = record { 0 = pos 2000 };
       c = pos 0;
       n = 3;
-      points = pos 0 ∷ (pos 600 ∷ (pos 2000 ∷ (pos 0 ∷ (pos 0 ∷ (pos 0 ∷ (pos 0 ∷ (pos 0 ∷ [])))))));
+      points = map (λ p. record { 0 = p }) (pos 0 ∷ (pos 600 ∷ (pos 2000 ∷ (pos 0 ∷ (pos 0 ∷ (pos 0 ∷ (pos 0 ∷ (pos 0 ∷ []))))))));
       slopes = pos 20 ∷ (pos 50 ∷ (pos 0 ∷ (pos 0 ∷ (pos 0 ∷ (pos 0 ∷ (pos 0 ∷ []))))));
     }
 

@@ -4,7 +4,7 @@ use Rattle.std.proofs.lemmas.List.{length-take-le, length-drop, get_or-take}
 use Rattle.std.proofs.lemmas.Int.{by_lt_z}
 use Rattle.measure.specs.Fraction.{Fraction, whole, Same, ◌≤ᶠ◌, ◌-ᶠ◌, ◌·ᶠ◌}
 use Rattle.machine.specs.Idle.{cost_if}
-use Rattle.stepped.specs.Piecewise.{in_range, Ranges, Chain, walk, first, inner, piecewise}
+use Rattle.stepped.specs.Piecewise.{powers_of, in_range, Ranges, Chain, walk, first, inner, piecewise}
 use Rattle.stepped.specs.StepLaw.{point, slope, OnPiece, SteppedCostLaw, OneCost}
 use Rattle.stepped.specs.declared.stepped.Stepped.{Stepped}
 use Rattle.measure.proofs.Laws.{lin, mul_one}
@@ -72,24 +72,24 @@ inner-at (suc k) (suc i) (x ∷ xs) h = get_or-take (suc k) xs i (pos 0) (omega 
 inner-length : (k : ℕ) (xs : List ℤ) → k + 1 ≤ length xs → length (take k (drop 1 xs)) ≡ k
 inner-length k xs h = length-take-le k (drop 1 xs) (omega (arith, length-drop 1 xs))
 
-module _ (m : Stepped) (ok : Ranges m) (points : length m.points ≡ 8) (slopes : length m.slopes ≡ 7) where
+module _ (m : Stepped) (ok : Ranges m) (points : length (powers_of m.points) ≡ 8) (slopes : length m.slopes ≡ 7) where
   abbrev base : ℤ
   base = pos 1000000 *ℤ m.c
 
   abbrev ks : List ℤ
-  ks = inner m m.points
+  ks = inner m (powers_of m.points)
 
   abbrev ts : List ℤ
   ts = inner m m.slopes
 
   long : length ks ≡ m.n - 1 - 1
-  long = let h = ok.n_high in inner-length (m.n - 1 - 1) m.points (omega arith)
+  long = let h = ok.n_high in inner-length (m.n - 1 - 1) (powers_of m.points) (omega arith)
 
   alike : length ks ≡ length ts
   alike = let h = ok.n_high in long ∙ sym (inner-length (m.n - 1 - 1) m.slopes (omega arith))
 
-  point_is : (i : ℕ) → i + 1 < m.n → get_or (first m.points ∷ ks) i (pos 0) ≡ point m i
-  point_is i h = inner-at (m.n - 1 - 1) i m.points (omega arith)
+  point_is : (i : ℕ) → i + 1 < m.n → get_or (first (powers_of m.points) ∷ ks) i (pos 0) ≡ point m i
+  point_is i h = inner-at (m.n - 1 - 1) i (powers_of m.points) (omega arith)
 
   slope_is : (i : ℕ) → i + 1 < m.n → get_or (first m.slopes ∷ ts) i (pos 0) ≡ slope m i
   slope_is i h = inner-at (m.n - 1 - 1) i m.slopes (omega arith)
@@ -99,10 +99,10 @@ module _ (m : Stepped) (ok : Ranges m) (points : length m.points ≡ 8) (slopes 
 
   rises : (i : ℕ) → i + 2 < m.n → point m i ≤ℤ point m (i + 1)
   rises i h =
-      let k = chain_rises (first m.points) ks i ok.chain (omega (arith, long)) in
+      let k = chain_rises (first (powers_of m.points)) ks i ok.chain (omega (arith, long)) in
       omega (arith, lin, k, point_is i (omega arith), next_is i h)
 
-  on_walk : (i : ℕ) (x : Fraction) → i + 1 < m.n → OnPiece m i x → OnWalk (first m.points) ks i x.num (pos x.den)
+  on_walk : (i : ℕ) (x : Fraction) → i + 1 < m.n → OnPiece m i x → OnWalk (first (powers_of m.points)) ks i x.num (pos x.den)
   on_walk i x h o = record {
     low = λ l. rw (point_is i h) (omega (arith, lin, (o.low l).cross));
     high = λ l. let g : i + 2 < m.n = omega (arith, long) in rw (next_is i g) (omega (arith, lin, (o.high g).cross));
@@ -113,16 +113,16 @@ module _ (m : Stepped) (ok : Ranges m) (points : length m.points ≡ 8) (slopes 
   walks = record {
     start = record {
       cross = ap (λ z. z *ℤ pos 1)
-          (ap (λ z. walk base (first m.points) (first m.slopes) ks ts z (pos 1)) (sym (mul_one (point m 0)))
-          ∙ walk_start base (first m.points) (first m.slopes) ks ts (pos 1) (omega (arith, lin)) ok.chain
+          (ap (λ z. walk base (first (powers_of m.points)) (first m.slopes) ks ts z (pos 1)) (sym (mul_one (point m 0)))
+          ∙ walk_start base (first (powers_of m.points)) (first m.slopes) ks ts (pos 1) (omega (arith, lin)) ok.chain
           ∙ mul_one base);
     };
     along = λ i h x y o u.
-        let l = line_of base (first m.points) (first m.slopes) ks ts i ok.chain (omega (arith, long)) alike in
+        let l = line_of base (first (powers_of m.points)) (first m.slopes) ks ts i ok.chain (omega (arith, long)) alike in
         record {
           cross = line-slope l.start l.from (slope m i) x.num (pos x.den) y.num (pos y.den) _ _
-              (subst (λ (s : ℤ). walk base (first m.points) (first m.slopes) ks ts x.num (pos x.den) ≡ l.start *ℤ pos x.den +ℤ s *ℤ (x.num -ℤ l.from *ℤ pos x.den)) (slope_is i h) (l.is x.num (pos x.den) (den_positive x) (on_walk i x h o)))
-              (subst (λ (s : ℤ). walk base (first m.points) (first m.slopes) ks ts y.num (pos y.den) ≡ l.start *ℤ pos y.den +ℤ s *ℤ (y.num -ℤ l.from *ℤ pos y.den)) (slope_is i h) (l.is y.num (pos y.den) (den_positive y) (on_walk i y h u)));
+              (subst (λ (s : ℤ). walk base (first (powers_of m.points)) (first m.slopes) ks ts x.num (pos x.den) ≡ l.start *ℤ pos x.den +ℤ s *ℤ (x.num -ℤ l.from *ℤ pos x.den)) (slope_is i h) (l.is x.num (pos x.den) (den_positive x) (on_walk i x h o)))
+              (subst (λ (s : ℤ). walk base (first (powers_of m.points)) (first m.slopes) ks ts y.num (pos y.den) ≡ l.start *ℤ pos y.den +ℤ s *ℤ (y.num -ℤ l.from *ℤ pos y.den)) (slope_is i h) (l.is y.num (pos y.den) (den_positive y) (on_walk i y h u)));
         };
   }
 
@@ -155,7 +155,7 @@ module _ (m : Stepped) (ok : Ranges m) (points : length m.points ≡ 8) (slopes 
         from_point (m.n - 2) 0 (omega arith) (λ h. absurd (omega arith)) (same-both _ _ _ F.start G.start)
 
 -- a row in range has one cost, its true cost
-pub one-cost : (m : Stepped) → length m.points ≡ 8 → length m.slopes ≡ 7 → in_range m ≡ true → OneCost m
+pub one-cost : (m : Stepped) → length (powers_of m.points) ≡ 8 → length m.slopes ≡ 7 → in_range m ≡ true → OneCost m
 one-cost m points slopes e =
     let walked = walks m (ranges m e) points slopes in
     let law : SteppedCostLaw m (cost_if (in_range m) (piecewise m)) = subst (λ (t : Bool). SteppedCostLaw m (cost_if t (piecewise m))) (sym e) walked in

@@ -7,7 +7,7 @@ use Rattle.measure.specs.Fraction.{Fraction, whole, ◌-ᶠ◌, ◌·ᶠ◌, Bet
 use Rattle.measure.specs.Rows.{All}
 use Rattle.machine.specs.Meaning.{Lawful, Margin, Keeps}
 use Rattle.machine.specs.Limits.{limits_in_range}
-use Rattle.stepped.specs.Piecewise.{each_between, rising, never_falling, in_range, Ranges, Chain, Carried, first, inner, piecewise, piecewise_whole, least_piecewise, stepped_meaning}
+use Rattle.stepped.specs.Piecewise.{powers_of, each_between, rising, never_falling, in_range, Ranges, Chain, Carried, first, inner, piecewise, piecewise_whole, least_piecewise, stepped_meaning}
 use Rattle.stepped.specs.declared.stepped.Stepped.{Stepped}
 use Rattle.measure.proofs.Laws.{expand, lin, mul_one}
 use Rattle.measure.proofs.Order.{product_within, mul_mono, test_within}
@@ -78,13 +78,13 @@ pub ranges : (m : Stepped) → in_range m ≡ true → Ranges m
 ranges m e =
     let a = and_parts _ (never_falling (take (m.n - 1) m.slopes)) e in
     let b = and_parts _ (each_between (neg_ℤ (pos 1000000)) (pos 1000000) (take (m.n - 1) m.slopes)) a.0 in
-    let c = and_parts _ (rising (take m.n m.points)) b.0 in
-    let d = and_parts _ (each_between (neg_ℤ (pos 100000000)) (pos 100000000) (take m.n m.points)) c.0 in
+    let c = and_parts _ (rising (take m.n (powers_of m.points))) b.0 in
+    let d = and_parts _ (each_between (neg_ℤ (pos 100000000)) (pos 100000000) (take m.n (powers_of m.points))) c.0 in
     let f = and_parts _ (between (neg_ℤ (pos 100000000)) (pos 100000000) m.c) d.0 in
     let g = and_parts _ (limits_in_range m.bus m.lo.0 m.hi.0) f.0 in
     let j = and_parts (nat_le 2 m.n) (nat_le m.n 8) g.0 in
     let low = leb-true 2 m.n j.0 in
-    let ps = points_of m.n m.points low d.1 c.1 in
+    let ps = points_of m.n (powers_of m.points) low d.1 c.1 in
     let ss = slopes_of (m.n - 1) m.slopes (omega arith) b.1 in
     record {
       limits = limits m.bus m.lo.0 m.hi.0 g.1;
@@ -116,27 +116,27 @@ module _ (m : Stepped) (ok : Ranges m) where
   answer_is : (p : ℤ) → Ceiling (piecewise m (whole p)) (piecewise_whole m p)
   answer_is p = record { above = record { cross = omega (arith, lin) }; least = λ s h. omega (arith, lin, h.cross) }
 
-  carried : Carried (pos 1000000 *ℤ m.c) (first m.points)
+  carried : Carried (pos 1000000 *ℤ m.c) (first (powers_of m.points))
   carried =
       let a = product_within 1000000 100000000 (pos 1000000) m.c (omega (arith, lin)) ok.c in
       let b = ok.first_point in
       omega (arith, lin)
 
   cost_within : (p : ℤ) → Within 100000000 p → Within 500000000000000 (piecewise_whole m p)
-  cost_within p h = walk_within base (first m.points) (first m.slopes) (inner m m.points) (inner m m.slopes) p ok.chain carried ok.first_point ok.first_slope ok.points ok.slopes h
+  cost_within p h = walk_within base (first (powers_of m.points)) (first m.slopes) (inner m (powers_of m.points)) (inner m m.slopes) p ok.chain carried ok.first_point ok.first_slope ok.points ok.slopes h
 
   answer_range : (p : ℤ) → Within 100000000 p → Within 1000000000000000 (piecewise_whole m p)
   answer_range p h = omega (arith, lin, cost_within p h)
 
   reached : (q : ℤ) → (y : ℤ) × (m.lo.0 ≤ℤ y) × (y ≤ℤ m.hi.0) × (piecewise_whole m y ≡ least_piecewise m q +ℤ q *ℤ y)
-  reached q = least_reached base (first m.points) (first m.slopes) (inner m m.points) (inner m m.slopes) m.lo.0 m.hi.0 q ok.chain ok.limits.order
+  reached q = least_reached base (first (powers_of m.points)) (first m.slopes) (inner m (powers_of m.points)) (inner m m.slopes) m.lo.0 m.hi.0 q ok.chain ok.limits.order
 
   margin_is : (q : ℤ) → Margin allowed (piecewise m) q (least_piecewise m q)
   unfolding ◌-ᶠ◌ ◌·ᶠ◌
   margin_is q = record {
     below = λ x a. record {
       cross = margin_from _ q x.num (pos x.den) (least_piecewise m q) (den_positive x)
-          (least_below base (first m.points) (first m.slopes) (inner m m.points) (inner m m.slopes) m.lo.0 m.hi.0 q x.num (pos x.den) (den_positive x) ok.chain (omega (arith, lin, a.low.cross)) (omega (arith, lin, a.high.cross)));
+          (least_below base (first (powers_of m.points)) (first m.slopes) (inner m (powers_of m.points)) (inner m m.slopes) m.lo.0 m.hi.0 q x.num (pos x.den) (den_positive x) ok.chain (omega (arith, lin, a.low.cross)) (omega (arith, lin, a.high.cross)));
     };
     greatest = λ s g.
         let r = reached q in
@@ -154,7 +154,7 @@ module _ (m : Stepped) (ok : Ranges m) where
   lawful : Lawful allowed (piecewise m) (piecewise_whole m) (least_piecewise m)
   lawful =
       limits_lawful m.lo.0 m.hi.0 ok.limits (piecewise m) (piecewise_whole m) (least_piecewise m)
-      (λ x y s. record { cross = walk_same base (first m.points) (first m.slopes) (inner m m.points) (inner m m.slopes) x.num (pos x.den) y.num (pos y.den) (den_positive x) (den_positive y) ok.chain s.cross })
+      (λ x y s. record { cross = walk_same base (first (powers_of m.points)) (first m.slopes) (inner m (powers_of m.points)) (inner m m.slopes) x.num (pos x.den) y.num (pos y.den) (den_positive x) (den_positive y) ok.chain s.cross })
       answer_is answer_range margin_is margin_range
 
 pub stepped_lawful : Keeps stepped_meaning

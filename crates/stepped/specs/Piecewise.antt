@@ -1,6 +1,6 @@
 -- A machine whose cost is a line in pieces: 1,000,000 c at the first point, from there on by the slope between two neighbouring points,
 -- with the first and the last slope going on outside. So the slope changes only at the points between the first and the last.
-use Rattle.std.specs.Prelude.{◌-◌, ◌≤◌, Bool, true, cond, ◌&&◌, List, [], ◌∷◌, take, drop, ℤ, pos, ◌+ℤ◌, ◌-ℤ◌, ◌*ℤ◌, neg_ℤ, ◌≤ℤ◌, ◌<ℤ◌, int_le, int_lt, nat_le, slice_index_or}
+use Rattle.std.specs.Prelude.{◌-◌, ◌≤◌, Bool, true, cond, ◌&&◌, List, [], ◌∷◌, map, take, drop, ℤ, pos, ◌+ℤ◌, ◌-ℤ◌, ◌*ℤ◌, neg_ℤ, ◌≤ℤ◌, ◌<ℤ◌, int_le, int_lt, nat_le, slice_index_or}
 use Rattle.std.specs.Int.{int_min}
 use Rattle.measure.specs.Range.{Within, between}
 use Rattle.measure.specs.Fraction.{Fraction, Between}
@@ -8,7 +8,12 @@ use Rattle.measure.specs.Rows.{All}
 use Rattle.machine.specs.Meaning.{Meaning}
 use Rattle.machine.specs.Idle.{allowed_if, cost_if, answer_if}
 use Rattle.machine.specs.Limits.{limits_in_range, Limits}
+use Rattle.measure.specs.declared.Watts.{Watts}
 use Rattle.stepped.specs.declared.stepped.Stepped.{Stepped}
+
+-- powers as numbers of watts
+abbrev pub powers_of : List Watts → List ℤ
+powers_of ws = map (λ w. w.0) ws
 
 -- each number lies between a and b
 abbrev pub each_between : ℤ → ℤ → List ℤ → Bool
@@ -34,8 +39,8 @@ in_range m =
     && nat_le m.n 8
     && limits_in_range m.bus m.lo.0 m.hi.0
     && between (neg_ℤ (pos 100000000)) (pos 100000000) m.c
-    && each_between (neg_ℤ (pos 100000000)) (pos 100000000) (take m.n m.points)
-    && rising (take m.n m.points)
+    && each_between (neg_ℤ (pos 100000000)) (pos 100000000) (take m.n (powers_of m.points))
+    && rising (take m.n (powers_of m.points))
     && each_between (neg_ℤ (pos 1000000)) (pos 1000000) (take (m.n - 1) m.slopes)
     && never_falling (take (m.n - 1) m.slopes)
 
@@ -80,22 +85,22 @@ pub record Ranges (m : Stepped) : Type 0 where
   pub c : Within 100000000 m.c
   pub n_low : 2 ≤ m.n
   pub n_high : m.n ≤ 8
-  pub first_point : Within 100000000 (first m.points)
+  pub first_point : Within 100000000 (first (powers_of m.points))
   pub first_slope : Within 1000000 (first m.slopes)
-  pub points : All (Within 100000000) (inner m m.points)
+  pub points : All (Within 100000000) (inner m (powers_of m.points))
   pub slopes : All (Within 1000000) (inner m m.slopes)
-  pub chain : Chain (first m.points) (inner m m.points)
+  pub chain : Chain (first (powers_of m.points)) (inner m (powers_of m.points))
 
 -- the true cost at power x
 abbrev pub piecewise : Stepped → Fraction → Fraction
-piecewise m x = record { num = walk (pos 1000000 *ℤ m.c) (first m.points) (first m.slopes) (inner m m.points) (inner m m.slopes) x.num (pos x.den); den = x.den; positive = x.positive }
+piecewise m x = record { num = walk (pos 1000000 *ℤ m.c) (first (powers_of m.points)) (first m.slopes) (inner m (powers_of m.points)) (inner m m.slopes) x.num (pos x.den); den = x.den; positive = x.positive }
 
 -- the same at a whole power
 abbrev pub piecewise_whole : Stepped → ℤ → ℤ
-piecewise_whole m p = walk (pos 1000000 *ℤ m.c) (first m.points) (first m.slopes) (inner m m.points) (inner m m.slopes) p (pos 1)
+piecewise_whole m p = walk (pos 1000000 *ℤ m.c) (first (powers_of m.points)) (first m.slopes) (inner m (powers_of m.points)) (inner m m.slopes) p (pos 1)
 
 abbrev pub least_piecewise : Stepped → ℤ → ℤ
-least_piecewise m q = least_walk (pos 1000000 *ℤ m.c) (first m.points) (first m.slopes) (inner m m.points) (inner m m.slopes) m.lo.0 m.hi.0 q
+least_piecewise m q = least_walk (pos 1000000 *ℤ m.c) (first (powers_of m.points)) (first m.slopes) (inner m (powers_of m.points)) (inner m m.slopes) m.lo.0 m.hi.0 q
 
 abbrev pub stepped_meaning : Meaning Stepped
 stepped_meaning = record {

@@ -1,12 +1,12 @@
 -- The cost of a stepped machine by its points and slopes: a law that one cost keeps, and no other.
 use Rattle.std.specs.Prelude.{ℕ, ◌+◌, ◌<◌, ℤ, pos, ◌*ℤ◌, slice_index_or}
 use Rattle.measure.specs.Fraction.{Fraction, whole, Same, ◌≤ᶠ◌, ◌-ᶠ◌, ◌·ᶠ◌}
-use Rattle.stepped.specs.Piecewise.{stepped_meaning}
+use Rattle.stepped.specs.Piecewise.{powers_of, stepped_meaning}
 use Rattle.stepped.specs.declared.stepped.Stepped.{Stepped}
 
 -- point i and slope i of the row, counted from 0
 abbrev pub point : Stepped → ℕ → ℤ
-point m i = slice_index_or m.points i (pos 0)
+point m i = slice_index_or (powers_of m.points) i (pos 0)
 
 abbrev pub slope : Stepped → ℕ → ℤ
 slope m i = slice_index_or m.slopes i (pos 0)

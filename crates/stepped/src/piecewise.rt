@@ -1,11 +1,12 @@
 // Arithmetic of a cost in straight pieces, within the ranges of a row.
-ghost use Rattle.std.specs.Prelude.{◌≡◌, ◌⊎◌, [], ◌∷◌, pos, ◌+ℤ◌, ◌-ℤ◌, ◌*ℤ◌, MatchOption};
+ghost use Rattle.std.specs.Prelude.{◌≡◌, ◌⊎◌, [], ◌∷◌, pos, neg_ℤ, ◌+ℤ◌, ◌-ℤ◌, ◌*ℤ◌, MatchOption};
 ghost use Rattle.measure.specs.Range.{Within};
 ghost use Rattle.measure.specs.Rows.{All};
-ghost use Rattle.stepped.specs.Piecewise.{each_between, Carried, Chain, walk, net, least_walk};
+ghost use Rattle.stepped.specs.Piecewise.{powers_of, each_between, Carried, Chain, walk, net, least_walk};
 ghost use Rattle.stepped.specs.Pieces.{All_within-prop, Chain-prop};
 
 use machine::limits::Power;
+use measure::Watts;
 use measure::price::Price;
 use measure::range::is_between;
 
@@ -14,6 +15,14 @@ pub(crate) fn all_between(low: i64, high: i64, xs: &[i64]) -> bool
     ensures { result ≡ each_between low high xs.now }
 {
     xs.iter().all(|x| is_between(low, high, *x))
+}
+
+// Whether each power lies within the widest limits.
+pub(crate) fn are_powers(xs: &[Watts]) -> bool
+    ensures { result ≡ each_between (neg_ℤ (pos 100000000)) (pos 100000000) (powers_of xs.now) }
+{
+    xs.iter()
+        .all(|x| is_between(-Watts::LIMIT, Watts::LIMIT, x.0))
 }
 
 // A straight line: the cost at the point `from`, and its slope.
@@ -48,18 +57,18 @@ impl Line {
 #[derive(Clone, Copy)]
 pub(crate) struct Pieces<'a> {
     pub line: Line,
-    pub points: &'a [i64],
+    pub points: &'a [Watts],
     pub slopes: &'a [i64],
-    pub ghost ranged: { All (Within 100000000) points.now } by { All_within-prop 100000000 points.now },
+    pub ghost ranged: { All (Within 100000000) (powers_of points.now) } by { All_within-prop 100000000 (powers_of points.now) },
     pub ghost sloped: { All (Within 1000000) slopes.now } by { All_within-prop 1000000 slopes.now },
-    pub ghost rising: { Chain line.from.watts points.now } by { Chain-prop line.from.watts points.now },
+    pub ghost rising: { Chain line.from.watts (powers_of points.now) } by { Chain-prop line.from.watts (powers_of points.now) },
 }
 
 impl<'a> Pieces<'a> {
     // The pieces from the next point on, or none where the line is the last. By slice patterns, a form that docs/DECISIONS.md
     // lists.
     fn next(self) -> Option<Pieces<'a>>
-        ensures { MatchOption result ((self.entry.points.now ≡ []) ⊎ (self.entry.slopes.now ≡ [])) (λ n. (n.line.cost ≡ self.entry.line.cost +ℤ self.entry.line.slope *ℤ (n.line.from.watts -ℤ self.entry.line.from.watts)) × (self.entry.points.now ≡ n.line.from.watts ∷ n.points.now) × (self.entry.slopes.now ≡ n.line.slope ∷ n.slopes.now)) }
+        ensures { MatchOption result ((powers_of self.entry.points.now ≡ []) ⊎ (self.entry.slopes.now ≡ [])) (λ n. (n.line.cost ≡ self.entry.line.cost +ℤ self.entry.line.slope *ℤ (n.line.from.watts -ℤ self.entry.line.from.watts)) × (powers_of self.entry.points.now ≡ n.line.from.watts ∷ powers_of n.points.now) × (self.entry.slopes.now ≡ n.line.slope ∷ n.slopes.now)) }
     {
         let [point, points @ ..] = self.points else {
             return None;
@@ -67,7 +76,7 @@ impl<'a> Pieces<'a> {
         let [slope, slopes @ ..] = self.slopes else {
             return None;
         };
-        let from = Power { watts: *point };
+        let from = Power { watts: point.0 };
         let line = Line {
             cost: self.line.at(from),
             from,
@@ -82,7 +91,7 @@ impl<'a> Pieces<'a> {
 
     // The cost at y.
     pub(crate) fn at(self, y: Power) -> i64
-        ensures { result ≡ walk self.entry.line.cost self.entry.line.from.watts self.entry.line.slope self.entry.points.now self.entry.slopes.now y.watts (pos 1) }
+        ensures { result ≡ walk self.entry.line.cost self.entry.line.from.watts self.entry.line.slope (powers_of self.entry.points.now) self.entry.slopes.now y.watts (pos 1) }
     {
         let Some(next) = self.next() else {
             return self.line.at(y);
@@ -96,7 +105,7 @@ impl<'a> Pieces<'a> {
 
     // The least of cost - q × power from a to b: at a, at b or at a point between.
     pub(crate) fn least(self, q: Price, a: Power, b: Power) -> i64
-        ensures { result ≡ least_walk self.entry.line.cost self.entry.line.from.watts self.entry.line.slope self.entry.points.now self.entry.slopes.now a.watts b.watts q.value }
+        ensures { result ≡ least_walk self.entry.line.cost self.entry.line.from.watts self.entry.line.slope (powers_of self.entry.points.now) self.entry.slopes.now a.watts b.watts q.value }
     {
         let at_a = self.line.net_at(q, a);
         let at_b = self.line.net_at(q, b);

@@ -1,10 +1,10 @@
 // A machine with a cost in straight pieces.
 ghost use Rattle.std.specs.Prelude.{◌≡◌, true, pos, ◌*ℤ◌};
-ghost use Rattle.stepped.specs.Piecewise.{in_range, Ranges, first, inner, stepped_meaning};
+ghost use Rattle.stepped.specs.Piecewise.{in_range, Ranges, powers_of, first, inner, stepped_meaning};
 ghost use Rattle.stepped.specs.StepLaw.{OneCost};
 ghost use Rattle.stepped.specs.Keeping.{stepped_lawful};
 
-use crate::piecewise::{Line, Pieces, all_between};
+use crate::piecewise::{Line, Pieces, all_between, are_powers};
 use machine::limits::{self, FIXED_COST_LIMIT, MOST_POINTS, Power};
 use machine::machine::Machine;
 use measure::price::Price;
@@ -22,7 +22,7 @@ pub struct Stepped {
     pub hi: Watts,
     pub c: i64,
     pub n: usize,
-    pub points: [i64; MOST_POINTS],
+    pub points: [Watts; MOST_POINTS],
     pub slopes: [i64; 7],
 }
 
@@ -40,25 +40,26 @@ impl Stepped {
         let slopes = &self.slopes[0..self.n - 1];
         limits::are_in_range(self.bus, self.lo, self.hi)
             & is_between(-FIXED_COST_LIMIT, FIXED_COST_LIMIT, self.c)
-            & all_between(-Watts::LIMIT, Watts::LIMIT, points)
-            & points.is_sorted_by(|x, y| x < y)
+            & are_powers(points)
+            & points.is_sorted_by(|x, y| x.0 < y.0)
             & all_between(-Price::LIMIT, Price::LIMIT, slopes)
             & slopes.is_sorted_by(|x, y| x <= y)
     }
 
     // Its cost, along the line of its first slope and then from point to point. Ranges are asked for, as any numbers may stand in a row.
+    #[tactic(auto, using(crate::proofs::Powers::head_power, crate::proofs::Powers::inner_powers))]
     fn pieces(&self) -> Pieces<'_>
         requires { Ranges self.now }
         ensures cost { result.line.cost ≡ pos 1000000 *ℤ self.now.c }
-        ensures from { result.line.from.watts ≡ first self.now.points }
+        ensures from { result.line.from.watts ≡ first (powers_of self.now.points) }
         ensures slope { result.line.slope ≡ first self.now.slopes }
-        ensures points { result.points.now ≡ inner self.now self.now.points }
+        ensures points { powers_of result.points.now ≡ inner self.now (powers_of self.now.points) }
         ensures slopes { result.slopes.now ≡ inner self.now self.now.slopes }
     {
         let line = Line {
             cost: 1_000_000 * self.c,
             from: Power {
-                watts: self.points[0],
+                watts: self.points[0].0,
             },
             slope: self.slopes[0],
         };

@@ -2,7 +2,7 @@ use Rattle.std.proofs.Common.{◌≡◌, ℕ, ◌+◌, ◌-◌, ◌/◌, ◌%◌
 use Rattle.std.proofs.lemmas.List.{take_rest}
 use Rattle.std.proofs.lemmas.Int.{to_z-of_z}
 use Rattle.word.specs.Word.{payload_of, amount_of}
-use Rattle.case_tables.specs.Rows.{padded}
+use Rattle.case_tables.specs.Rows.{padded, powered}
 use Rattle.case_tables.proofs.record.RecordWords.stepped_row.Goals as goal
 
 pub returns : goal.returns
@@ -16,10 +16,10 @@ returns c =
     let cost = to_z-of_z w64 c.amount-3.result (record { sfits = c.amount-3.type_inv }) ∙ c.amount-3.ensures in
     let few : 3 + n - 3 ≡ n = omega arith in
     let points =
-    c.amounts_in.ensures
-    ∙ ap (λ (k : ℕ). padded 8 (map amount_of (take k (drop 3 amounts)))) (few ∙ said) in
+    c.powers_in.ensures
+    ∙ ap (λ (k : ℕ). map powered (padded 8 (map amount_of (take k (drop 3 amounts))))) (few ∙ said) in
     let slopes =
-    c.amounts_in-2.ensures
+    c.amounts_in.ensures
     ∙ ap (λ (xs : List ℕ). padded 7 (map amount_of xs)) (take_rest amounts (3 + n))
     ∙ ap (λ (k : ℕ). padded 7 (map amount_of (drop (3 + k) amounts))) said in
     λ i. record {

@@ -9,7 +9,7 @@ use network::bus::Bus;
 use network::case::{Case, Machines};
 
 // A view of the case: the machines that were offered, and the tables in which the rest was laid. The tolerance in range fits 32 bits. Four
-// tables, not a struct of them: that has one lifetime, and a caller that views tables behind its references gets no proof.
+// tables, not a struct of them: that has one lifetime, where the tables of a caller may have several.
 pub fn view<'a, M, N>(
     rows: &Rows<'a, M, N>,
     buses: &'a [Bus],

@@ -64,7 +64,7 @@ fn write_rows<T: Copy>(rows: &[T], table: &mut [T])
 
 // Reads a case into the lent tables: buses, machines of both kinds with the rows of their buses, and branches. The words are tested to their
 // end before a row is read, every name before the first writing, and a refusal leaves every table as it was. Six tables, not a
-// struct of them: that has one lifetime, and a caller that lends one of its tables twice gets no proof.
+// struct of them: that has one lifetime, where the tables of a caller may have several.
 pub fn read_case(
     words: &[u32],
     buses: &mut [Bus],

@@ -16,7 +16,7 @@ use word::kind::payload;
 use word::name::branch_name;
 
 // The amounts of the words, then zeros. By index: of what `iter_mut` lends only the length is known afterwards, and `array::from_fn` tells of its calls
-// by the states of its closure, of which it was not proved that they keep these words.
+// by the states of its closure.
 fn amounts_in<const N: usize>(words: &[u32]) -> [i64; N]
     requires { length words.now ≤ N }
     ensures { result ≡ padded N (map amount_of words.now) }

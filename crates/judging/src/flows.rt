@@ -26,8 +26,8 @@ impl<'a, 'd, C: Column> Flows<'a, 'd, C> {
         branch.ends.leaving(bus, self.angles.flow(branch))
     }
 
-    // What leaves the bus by the branch in that row, less what arrives; 0 past the last row. By `let .. else`, as in each question of a row: what the
-    // closure of a `map_or` answers was not proved.
+    // What leaves the bus by the branch in that row, less what arrives; 0 past the last row. By `let .. else`, as in each question of a row: its contract
+    // says what each way answers, where that of a `map_or` speaks of its closure.
     #[tactic(auto, using(measure::proofs::Sums::row_past))]
     fn outflow_in(&self, row: usize, bus: usize) -> i64
         ensures { result ≡ row_value (outflow_row (angle_of self.now.angles.buses (C.value self.now.angles.given.now.column)) bus) self.now.branches.now row }

@@ -26,7 +26,7 @@ fn cost<M: Machine, N: Machine, C: Column>(
     let first = case.first.used();
     let second = case.second.used();
     let one = total_cost(first, &dispatch.first).map_err(Refusal::NotAllowed)?;
-    // A match, not `map_err`: that the row counted on fits did not close in the proof of a closure.
+    // A match, not `map_err`: here the row is known to be one of the group's, so that the sum fits.
     match total_cost(second, &dispatch.second) {
         Err(row) => Err(Refusal::NotAllowed(first.len() + row)),
         Ok(other) => Ok(Grains(one.0 + other.0)),
@@ -44,7 +44,7 @@ pub fn judge<M: Machine, N: Machine, C: Column>(
         given: &dispatch.angles,
         buses: case.bus_count(),
     };
-    // An `if let` at each limit: by a function that makes a refusal of each row the proof was twice as long.
+    // An `if let` at each limit, since each has a refusal of its own for the row.
     if let Some(row) = angles.out_of_range() {
         return Err(Refusal::OutOfRange(row));
     }

@@ -23,7 +23,7 @@ pub fn first_broken<F: Fn(usize) -> bool>(count: u8, is_broken: F) -> Option<usi
     requires { (i : ℕ) → i < count → F.pre is_broken i }
     ensures { IsFirstOf (F.post is_broken) count result }
 {
-    // A loop: that the limit may be asked of each row that `find` or `position` takes from the range did not close in its proof.
+    // A loop, in which each row is known to be below the count, as the closure asks.
     for row in 0..usize::from(count) {
         if is_broken(row) {
             return Some(row);

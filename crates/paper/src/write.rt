@@ -41,7 +41,7 @@ fn put_amounts(table: &[i64], from: usize, list: &mut [u32])
     requires { from + length table.now ≤ length list.old }
     ensures { list.new ≡ take from list.old ++ (map amount_word table.now ++ drop (from + length table.now) list.old) }
 {
-    // By place, not by `iter_mut`: after that borrow a proof knows the list's length alone.
+    // By place: of what `iter_mut` lends only the length is known afterwards.
     for (i, x) in table.iter().enumerate() {
         list[from + i] = amount_word(*x);
     }

@@ -83,7 +83,7 @@ impl<'a, 'q, M, N, C: Column> PricedCase<'a, 'q, M, N, C> {
     fn price_beyond(&self) -> Option<usize>
         ensures { MatchOption result (BusPricesKept (case_of self.now.case) (prices_of C.value self.now.prices.now) × BranchPricesKept (case_of self.now.case) (prices_of C.value self.now.prices.now)) (OutOfRangeAt (case_of self.now.case) (prices_of C.value self.now.prices.now)) }
     {
-        // Not `or_else`: a proof learns nothing of what its closure answers here.
+        // Not `or_else`, whose contract speaks of its closure, and not of the second search.
         if let Some(row) = self.bus_price_beyond() {
             return Some(row);
         }
@@ -115,7 +115,7 @@ impl<'a, 'q, M, N, C: Column> PricedCase<'a, 'q, M, N, C> {
     pub(crate) fn check(&self) -> Result<(), Refusal>
         ensures { Checked (case_of self.now.case) (prices_of C.value self.now.prices.now) result }
     {
-        // An `if let` at each limit: by a function that makes a refusal of each row the proof was twice as long.
+        // An `if let` at each limit, since each has a refusal of its own for the row.
         if let Some(row) = self.price_beyond() {
             return Err(Refusal::OutOfRange(row));
         }

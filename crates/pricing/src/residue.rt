@@ -81,8 +81,8 @@ impl<'a, 'q, M, N, C: Column> PricedCase<'a, 'q, M, N, C> {
         )
     }
 
-    // What the branch in that row adds to the residue of the bus; 0 past the last row. By `let .. else`, as in each question of a row: what the
-    // closure of a `map_or` answers was not proved.
+    // What the branch in that row adds to the residue of the bus; 0 past the last row. By `let .. else`, as in each question of a row: its contract
+    // says what each way answers, where that of a `map_or` speaks of its closure.
     #[tactic(auto, using(measure::proofs::Sums::row_past))]
     fn share(&self, bus: usize, row: usize) -> i64
         ensures { result ≡ row_value (share (case_of self.now.case) (kept_prices (prices_of C.value self.now.prices.now)) bus) self.now.case.branches.now row }

@@ -5,7 +5,7 @@ use Rattle.standing.specs.Call.{Call, Offer, History}
 use Rattle.standing.specs.Call.Call.{offer}
 use Rattle.standing.specs.Panel.{Counts, Heading, Sheet, Priced, none_yet, raised, total}
 use Rattle.standing.specs.Panel.Heading.{HELD, PASSED, DECLINED, CHANGES}
-use Rattle.standing.specs.Told.{Opens, Ends, Made, CountOf, IsChange, OffersMeeting, OffersFloor, IsHeld, IsGood, Under, attendant_at, full_at, made_in_watch}
+use Rattle.standing.specs.Told.{Opens, Ends, Made, CountOf, IsChange, OffersMeeting, OffersFloor, IsHeld, IsGood, Under, attendant_at, full_at, came_in_watch}
 use Rattle.standing.specs.Told.CountOf.{anew, one_more, no_more}
 use Rattle.standing.specs.Told.Made.{offer_made, change_made}
 use Rattle.standing.specs.Told.IsChange.{taken}
@@ -51,7 +51,7 @@ module _ {m : Model} {h : History m} where
   made_room (offer_made f) = f
   made_room (change_made f) = f
 
-  pub made_one_more : {c : Call m} → Made h c → made_in_watch (c ∷ h) ≡ made_in_watch h + 1
+  pub made_one_more : {c : Call m} → Made h c → came_in_watch (c ∷ h) ≡ came_in_watch h + 1
   made_one_more (offer_made f) = refl
   made_one_more (change_made f) = refl
 

@@ -4,7 +4,7 @@ use Rattle.std.proofs.lemmas.Bool.{leb-false}
 use Rattle.standing.specs.Model.{Model}
 use Rattle.standing.specs.Call.{Call, History}
 use Rattle.standing.specs.Panel.{Heading, Watch, Sheet, Priced, State, none_yet, raised, total, with_watch, counting}
-use Rattle.standing.specs.Told.{Opens, Ends, Never, Made, attendant_at, made_in_watch, case_at, OffersMeeting, OffersFloor, IsChange, Under}
+use Rattle.standing.specs.Told.{Opens, Ends, Never, Made, attendant_at, came_in_watch, case_at, OffersMeeting, OffersFloor, IsChange, Under}
 use Rattle.standing.specs.Standing.{CountsStand, WatchStands, OnWatch, SheetsStand, of_watch, over_all}
 use Rattle.standing.specs.Standing.SheetsStand.{unwritten}
 use Rattle.standing.proofs.Best.{by_cost, by_floor, Best, kept}
@@ -21,7 +21,7 @@ module _ (m : Model) (start : m.Case) where
   -- the watch counts what was made in it, until it is full
   abbrev pub WatchMade : History m → Option Watch → Type 0
   WatchMade h None = Unit {0}
-  WatchMade h (Some w) = total w.counts ≡ min (made_in_watch h) 1000000
+  WatchMade h (Some w) = total w.counts ≡ min (came_in_watch h) 1000000
 
   pub record Holds (h : History m) (sheets : List Sheet) (s : State m) : Type 0 where
     pub case_is : s.case ≡ case_at m start h
@@ -92,7 +92,7 @@ module _ (m : Model) (start : m.Case) where
       made_now : Made h c
       made_now = under_made start k u
 
-      one_more : total (raised k w.counts) ≡ min (made_in_watch (c ∷ h)) 1000000
+      one_more : total (raised k w.counts) ≡ min (came_in_watch (c ∷ h)) 1000000
       one_more =
-          let below : made_in_watch h < 1000000 = leb-false 1000000 (made_in_watch h) (made_room made_now) in
+          let below : came_in_watch h < 1000000 = leb-false 1000000 (came_in_watch h) (made_room made_now) in
           omega (arith, total-raised k w.counts, made_one_more made_now, n, below)

@@ -12,7 +12,7 @@ use Rattle.standing.specs.Step.{Offered, ChangeMade, Step, sheets_of}
 use Rattle.standing.specs.Step.Step.{manned, offer_counted, change_counted, offer_too_many, change_too_many, asked, handed_over, hand_over_refused, stood_down}
 use Rattle.standing.specs.Run.{Run}
 use Rattle.standing.specs.Run.Run.{new, called}
-use Rattle.standing.specs.Told.{Opens, Ends, Made, CountOf, attendant_at, made_in_watch, full_at, case_at, OffersMeeting, OffersFloor}
+use Rattle.standing.specs.Told.{Opens, Ends, Made, CountOf, attendant_at, came_in_watch, full_at, case_at, OffersMeeting, OffersFloor}
 use Rattle.standing.specs.Told.Opens.{by_manning, by_hand_over}
 use Rattle.standing.specs.Told.Ends.{at_hand_over, at_stand_down}
 use Rattle.standing.specs.Standing.{ShownStands, FloorStands, WatchStands, OnWatch, SheetStands, SheetsStand, of_watch, over_all}
@@ -94,21 +94,21 @@ module _ (m : Model) (start : m.Case) where
     -- a watch of the panel is full exactly if the history says so
     full_met : (h : History m) (w : Watch) → WatchMade m start h (Some w) → is_full (total w.counts) ≡ true → full_at h ≡ true
     full_met h w n f =
-        let k : 1000000 ≤ total w.counts = leb-true 1000000 (total w.counts) f in le-leb 1000000 (made_in_watch h) (omega (arith, n, k))
+        let k : 1000000 ≤ total w.counts = leb-true 1000000 (total w.counts) f in le-leb 1000000 (came_in_watch h) (omega (arith, n, k))
 
     room_left : (h : History m) (w : Watch) → WatchMade m start h (Some w) → is_full (total w.counts) ≡ false → full_at h ≡ false
     room_left h w n f =
-        let k : total w.counts < 1000000 = leb-false 1000000 (total w.counts) f in lt-leb 1000000 (made_in_watch h) (omega (arith, n, k))
+        let k : total w.counts < 1000000 = leb-false 1000000 (total w.counts) f in lt-leb 1000000 (came_in_watch h) (omega (arith, n, k))
 
     -- a full watch leaves the panel as it was
     full_step :
         (h : History m) (c : Call m) (sheets : List Sheet) (s : State m) (w : Watch) → s.watch ≡ Some w → is_full (total w.counts) ≡ true →
-        ¬ Opens c → ¬ Ends c → attendant_at (c ∷ h) ≡ attendant_at h → made_in_watch (c ∷ h) ≡ made_in_watch h + 1 → Holds m start h sheets s → Holds m start (c ∷ h) sheets s
+        ¬ Opens c → ¬ Ends c → attendant_at (c ∷ h) ≡ attendant_at h → came_in_watch (c ∷ h) ≡ came_in_watch h + 1 → Holds m start h sheets s → Holds m start (c ∷ h) sheets s
     full_step h c sheets s w e f k x same one i =
         let n : WatchMade m start h (Some w) = subst (WatchMade m start h) e i.made in
         let full : full_at h ≡ true = full_met h w n f in
         unmoved m start (λ t. true≢false (sym full ∙ made_room t)) k x same
-        (subst (WatchMade m start (c ∷ h)) (sym e) (omega (arith, n, one, leb-true 1000000 (made_in_watch h) full))) i
+        (subst (WatchMade m start (c ∷ h)) (sym e) (omega (arith, n, one, leb-true 1000000 (came_in_watch h) full))) i
 
     -- a watch that ends
     ended :
@@ -146,7 +146,7 @@ module _ (m : Model) (start : m.Case) where
       end_on c w v n x e a b z =
           subst (λ y. Holds m start (c ∷ h) (open_sheet y s ++ sheets) (with_watch v s)) (sym e) (ended h c sheets s w v n x e i a b z)
 
-      made_kept : (c : Call m) → made_in_watch (c ∷ h) ≡ made_in_watch h → (v : Option Watch) → WatchMade m start h v → WatchMade m start (c ∷ h) v
+      made_kept : (c : Call m) → came_in_watch (c ∷ h) ≡ came_in_watch h → (v : Option Watch) → WatchMade m start h v → WatchMade m start (c ∷ h) v
       made_kept c e None n = tt
       made_kept c e (Some w) n = n ∙ ap (λ z. min z 1000000) (sym e)
 

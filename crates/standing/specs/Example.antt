@@ -14,7 +14,7 @@ pub record Demand : Type 0 where
   pub watts : ℕ
 
 -- A case is the demand at bus 1. A dispatch is the power of the one machine there: it covers the demand, and costs 1 a watt.
--- A price list is a floor that is not above the demand.
+-- A lawful price list is a floor that is not above the demand.
 abbrev pub one_bus : Model
 one_bus =
     record {

@@ -17,7 +17,7 @@ pub record Model : Type 1 where
   -- every limit of the case is kept
   pub MeetsInFractions : Case → Rival → Type 0
   pub in_fractions : Case → Dispatch → Rival
-  -- the price list is one whose floor counts
+  -- the price list is lawful: it has a floor
   pub Lawful : Case → Prices → Type 0
   -- the case with the change made; none where the case lacks the name
   pub changed : Case → Change → Option Case

@@ -74,7 +74,7 @@ pub record IsPassedOver {m : Model} (s : State m) (d : m.Dispatch) : Type 0 wher
   pub passed : Offered s (dispatch (Some d)) PASSED s
   pub not_otherwise : (k : Heading) (t : State m) → Offered s (dispatch (Some d)) k t → (k ≡ PASSED) × (t ≡ s)
 
--- the shown dispatch, offered again, is passed
+-- the shown dispatch, offered again to the same panel, is passed where the watch is not full
 abbrev pub ReofferedTheorem : Model → Type 0
 ReofferedTheorem m =
     (start : m.Case) (h : History m) (sheets : List Sheet) (s : State m) (d : Priced m) →

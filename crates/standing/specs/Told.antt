@@ -31,20 +31,20 @@ module _ {m : Model} where
     at_hand_over : {a : ℕ} → Ends (hand_over (Some a))
     at_stand_down : Ends stand_down
 
-  -- how many offers and changes came in the open watch
-  abbrev pub made_in_watch : History m → ℕ
-  made_in_watch [] = 0
-  made_in_watch (man a ∷ h) = 0
-  made_in_watch (offer o ∷ h) = made_in_watch h + 1
-  made_in_watch (change x ∷ h) = made_in_watch h + 1
-  made_in_watch (ask q ∷ h) = made_in_watch h
-  made_in_watch (hand_over None ∷ h) = made_in_watch h
-  made_in_watch (hand_over (Some a) ∷ h) = 0
-  made_in_watch (stand_down ∷ h) = 0
+  -- how many offers and changes came in the open watch, those that met it full too
+  abbrev pub came_in_watch : History m → ℕ
+  came_in_watch [] = 0
+  came_in_watch (man a ∷ h) = 0
+  came_in_watch (offer o ∷ h) = came_in_watch h + 1
+  came_in_watch (change x ∷ h) = came_in_watch h + 1
+  came_in_watch (ask q ∷ h) = came_in_watch h
+  came_in_watch (hand_over None ∷ h) = came_in_watch h
+  came_in_watch (hand_over (Some a) ∷ h) = 0
+  came_in_watch (stand_down ∷ h) = 0
 
   -- an offer or a change that comes now meets a full watch
   abbrev pub full_at : History m → Bool
-  full_at h = is_full (made_in_watch h)
+  full_at h = is_full (came_in_watch h)
 
   -- the call is an offer or a change, and meets no full watch
   pub data Made (h : History m) : Call m → Type 0 where

@@ -17,18 +17,18 @@ pub fn standing_stands<N: Network>()
     ensures { StandingTheorem N.model }
 {}
 
-// What stands leaves no choice: the same calls lead to the same panel, and write the same sheets.
+// What stands leaves no choice: from one case, the same calls lead to the same panel, and write the same sheets.
 pub fn standing_pins<N: Network>()
     ensures what_stands { PinningTheorem N.model }
     ensures same_calls { SameCallsTheorem N.model }
 {}
 
-// What is refused, or met by a full watch, and what is only asked, alters nothing but the count of what was declined.
+// A refusal raises the count of what was declined and alters nothing else; what meets a full watch, and a question, alter nothing.
 pub fn refusals_alter_nothing<N: Network>()
     ensures { RefusalsAlterNothing N.model }
 {}
 
-// The shown dispatch, offered again, is passed.
+// The shown dispatch, offered again to the same panel, is passed where the watch is not full.
 pub fn reoffered_passes<N: Network>()
     ensures { ReofferedTheorem N.model }
 {}

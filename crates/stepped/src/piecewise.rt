@@ -17,7 +17,7 @@ pub(crate) fn all_between(low: i64, high: i64, xs: &[i64]) -> bool
     xs.iter().all(|x| is_between(low, high, *x))
 }
 
-// Whether each power lies within the widest limits.
+// Whether each power lies within the widest limits. Not by the function above: points are powers, slopes plain numbers.
 pub(crate) fn are_powers(xs: &[Watts]) -> bool
     ensures { result ≡ each_between (neg_ℤ (pos 100000000)) (pos 100000000) (powers_of xs.now) }
 {

@@ -32,7 +32,7 @@ impl Stepped {
         ensures test { result ≡ in_range self.now }
         ensures cost { result ≡ true → OneCost self.now }
     {
-        // Written out: by `contains` it was not proved that the slices below lie within the arrays.
+        // Written out, since each half bounds the slices below.
         if self.n < 2 || self.n > MOST_POINTS {
             return false;
         }

@@ -10,5 +10,5 @@ pub grounds : {M N : Type 0} (𝓜 : Meaning M) (𝓝 : Meaning N) → Keeps �
 grounds 𝓜 𝓝 k l = record {
   stays = λ c w x d e. changed_sized 𝓜 𝓝 c w x d e;
   covers = λ c w d m. counted-covers 𝓜 𝓝 k l c.case (by_rows c.case d) m.in_fractions;
-  bounds = λ c w p q r m. floor_stands 𝓜 𝓝 k l c.case (list_by_rows p) r q m;
+  bounds = λ c w p q r m. floor_stands 𝓜 𝓝 k l c.case (list_by_rows p) r q.counts m;
 }

@@ -1,3 +1,9 @@
 pub mod Rows
 pub mod Changes
 pub mod Grounds
+pub mod Columns
+pub mod Lookups
+pub mod Offers
+pub mod Faults
+pub mod Made
+pub mod Decided

@@ -8,7 +8,7 @@ use Rattle.network.specs.Floor.{LawfulList, floor}
 use Rattle.network.specs.Floor as list
 use Rattle.build.specs.Build.{WellFormed}
 use Rattle.paper.specs.Dispatch.{Dispatch, LawfulDispatch}
-use Rattle.paper.specs.Prices.{Prices}
+use Rattle.paper.specs.Prices.{Prices, LawfulPrices}
 use Rattle.standing.specs.Model.{Model}
 use Rattle.panel_model.specs.Change.{Change, changed}
 
@@ -29,6 +29,11 @@ list_by_rows l =
       congestion = λ i. slice_index_or (map (λ b. b.congestion) l.branches) i (pos 0);
       angle = λ i. slice_index_or (map (λ b. b.angle) l.branches) i (pos 0);
     }
+
+-- a price list for the case has a price for each bus and two for each branch, each in its range, and is lawful
+pub record LawfulFor {M N : Type 0} (c : Case M N) (l : Prices) : Type 0 where
+  pub sized : LawfulPrices (length c.buses) (length c.branches) l
+  pub counts : LawfulList c (list_by_rows l)
 
 -- a case, and how many powers and angles a dispatch for it has
 pub record SizedCase (M N : Type 0) : Type 0 where
@@ -59,7 +64,7 @@ module _ {M N : Type 0} (𝓜 : Meaning M) (𝓝 : Meaning N) where
         Fits = λ s d. LawfulDispatch s.powers s.angles d;
         MeetsInFractions = λ s d. Meets 𝓜 𝓝 s.case d;
         in_fractions = λ s d. in_fractions (by_rows s.case d);
-        Lawful = λ s l. LawfulList s.case (list_by_rows l);
+        Lawful = λ s l. LawfulFor s.case l;
         changed = λ s x. option_map (in_place s) (changed s.case x);
         counted = λ s d. counted 𝓜 𝓝 s.case (by_rows s.case d);
         true_cost = λ s d. true_cost 𝓜 𝓝 s.case d;

@@ -6,10 +6,10 @@ use Rattle.panel_model.specs.Network.{network}
 pub record PanelsStand {M N : Type 0} (𝓜 : Meaning M) (𝓝 : Meaning N) : Type 0 where
   -- after any run of calls, what is shown stands
   pub standing : StandingTheorem (network 𝓜 𝓝)
-  -- and leaves no choice of figures, nor the calls one of the panel
+  -- it leaves no choice of figures, and so the calls leave none
   pub pinned : PinningTheorem (network 𝓜 𝓝)
   pub same_calls : SameCallsTheorem (network 𝓜 𝓝)
-  -- what is refused, or only asked, alters nothing but the count of what was declined
+  -- a refusal raises the one count and alters nothing else; what meets a full watch, and a question, alter nothing
   pub refusals : RefusalsAlterNothing (network 𝓜 𝓝)
-  -- the shown dispatch, offered again, is passed
+  -- the shown dispatch, offered again to the same panel, is passed where the watch is not full
   pub reoffered : ReofferedTheorem (network 𝓜 𝓝)

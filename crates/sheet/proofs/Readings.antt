@@ -38,7 +38,7 @@ no_line : (read : List ℕ) (n : ℕ) → lines_after read (replicate n 32) ≡ 
 no_line read zero = refl
 no_line read (suc n) = no_line (read ++ (32 ∷ [])) n
 
-lines_cut : (ls : List (List ℕ)) (n : ℕ) → All InLine ls → lines_in (ended ls ++ replicate n 32) ≡ ls
+pub lines_cut : (ls : List (List ℕ)) (n : ℕ) → All InLine ls → lines_in (ended ls ++ replicate n 32) ≡ ls
 lines_cut [] n p = no_line [] n
 lines_cut (l ∷ ls) n p =
     ap (lines_after []) (append_assoc l (10 ∷ ended ls) (replicate n 32)) ∙ line-cut [] l (ended ls ++ replicate n 32) (All-head InLine l ls p) ∙ ap (λ r. l ∷ r) (lines_cut ls n (All-tail InLine l ls p))
@@ -53,7 +53,7 @@ read_below : (ds : List ℕ) → 0 < length ds → read_minus ds ≡ Some (neg_�
 read_below [] some = absurd (omega arith)
 read_below (c ∷ cs) some = refl
 
-read_shown : (figure : Option ℤ) → Short figure → read_figure (shown figure) ≡ figure
+pub read_shown : (figure : Option ℤ) → Short figure → read_figure (shown figure) ≡ figure
 read_shown None s = refl
 read_shown (Some (pos n)) s = let k = decimal_is_IsNumeral n s in read_plain (decimal n) k.0.0 k.0.1 ∙ ap (λ m. Some (pos m)) k.1
 read_shown (Some (negsuc n)) s = let k = decimal_is_IsNumeral (suc n) s in read_below (decimal (suc n)) k.0.0 ∙ ap (λ m. Some (neg_ℤ (pos m))) k.1
@@ -73,11 +73,11 @@ pub record Shorts (s : Sheet) : Type 0 where
   pub floor : Short (amount_of s.floor)
   pub gap : Short (gap_of s.cost s.floor)
 
-in_line_of : (word : List ℕ) (figure : Option ℤ) → AllByRecursion (λ b. 10 < b) word → Short figure → InLine (line_of word figure)
+pub in_line_of : (word : List ℕ) (figure : Option ℤ) → AllByRecursion (λ b. 10 < b) word → Short figure → InLine (line_of word figure)
 in_line_of word figure w s =
     All-append (λ b. 10 < b) word (32 ∷ shown figure) (All-from_recursion (λ b. 10 < b) word w) (All-cons (λ b. 10 < b) 32 (shown figure) (omega arith) (in_line_shown figure s))
 
-in_lines_of : (s : Sheet) → Shorts s → All InLine (lines_of s)
+pub in_lines_of : (s : Sheet) → Shorts s → All InLine (lines_of s)
 in_lines_of s h = All-from_recursion InLine (lines_of s) (
   in_line_of (codes "WATCH") (Some (pos s.attendant)) (omega arith) h.attendant,
   (
@@ -108,9 +108,9 @@ lines_again : (s : Sheet) → Shorts s → lines_in (sheet_bytes s) ≡ lines_of
 unfolding sheet_lines sheet_bytes
 lines_again s h = lines_cut (lines_of s) (256 - length (sheet_lines s)) (in_lines_of s h)
 
-pub sheet_again : (s : Sheet) → Shorts s → read_sheet (sheet_bytes s) ≡ s
-unfolding read_sheet
-sheet_again s h = ap sheet_from (lines_again s h) ∙ (λ i. record {
+-- the lines may be followed by others
+pub sheet_from_lines : (s : Sheet) (rest : List (List ℕ)) → Shorts s → sheet_from (lines_of s ++ rest) ≡ s
+sheet_from_lines s rest h i = record {
   attendant = (decimal_is_IsNumeral s.attendant h.attendant).1 i;
   held = (decimal_is_IsNumeral s.held h.held).1 i;
   passed = (decimal_is_IsNumeral s.passed h.passed).1 i;
@@ -118,7 +118,11 @@ sheet_again s h = ap sheet_from (lines_again s h) ∙ (λ i. record {
   changes = (decimal_is_IsNumeral s.changes h.changes).1 i;
   cost = (ap grains_of (read_shown (amount_of s.cost) h.cost) ∙ grains-same s.cost) i;
   floor = (ap grains_of (read_shown (amount_of s.floor) h.floor) ∙ grains-same s.floor) i;
-})
+}
+
+pub sheet_again : (s : Sheet) → Shorts s → read_sheet (sheet_bytes s) ≡ s
+unfolding read_sheet
+sheet_again s h = ap sheet_from (lines_again s h) ∙ sheet_from_lines s [] h
 
 pub gap_again : (s : Sheet) → Shorts s → read_gap (sheet_bytes s) ≡ gap_of s.cost s.floor
 unfolding read_gap

@@ -1,0 +1,6 @@
+// What is printed of each call.
+#![tactic(auto)]
+
+pub mod answer;
+pub mod laws;
+mod line;

@@ -1,0 +1,10 @@
+pub mod Watch
+pub mod View
+pub mod Opening
+pub mod Copied
+pub mod Judged
+pub mod Refusals
+pub mod Calls
+pub mod Questions
+pub mod Standing
+pub mod Tables

@@ -6,7 +6,7 @@ use std::alloc::{AllocError, Global};
 use word::bytes::file_word;
 
 // So many bytes of a file are read at most.
-const LIMIT: usize = 65_536;
+pub const LIMIT: usize = 65_536;
 
 // The words of the file's first 65,536 bytes, four bytes each; one to three bytes over are dropped.
 pub fn words_of(heap: Global, bytes: &[u8]) -> Result<Vec<u32>, AllocError>

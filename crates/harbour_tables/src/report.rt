@@ -26,8 +26,7 @@ fn answer(rt: &HostRuntime, what: &str, answer: Result<Grains, Refusal>) -> io::
     }
 }
 
-// Judges each dispatch. Not one function with `floor_all`: tried, it took the rows, two words and a closure as parameters, asked by a clause
-// that the closure may be called, and was longer than the two.
+// Judges each dispatch. Not one function with `floor_all`: it would take the rows, two words and a closure, and be longer than the two.
 pub(crate) fn judge_all(rt: &HostRuntime, case: &Case<Stepped, Curved>) -> io::Result<()> {
     for offer in &OFFERS {
         println!(rt; "dispatch {offer}")?;

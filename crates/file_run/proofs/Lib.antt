@@ -1,0 +1,4 @@
+pub mod Calls
+pub mod Brought
+pub mod Runs
+pub mod Files

@@ -1,0 +1,4 @@
+pub mod Answers
+pub mod Called
+pub mod Papers
+pub mod Run

@@ -81,20 +81,16 @@ stands_front [] ys i x s = absurd s
 stands_front (y ∷ xs) ys zero x s = s
 stands_front (y ∷ xs) ys (suc i) x s = stands_front xs ys i x s
 
--- as many rows as were given, by their count
-pub filled_counted : {X Y : Type 0} (R : X → Y → Type 0) (given : List X) (before after : List Y) (n : ℕ) → n ≡ length given → Filled R given before after (length given) → Filled R given before after n
-filled_counted R given before after n all f = subst (Filled R given before after) (sym all) f
-
--- what is matched, copied into a table
-pub filled_copied : {X Y : Type 0} (R : X → Y → Type 0) (given : List X) (found before after : List Y) → after ≡ take (length given) found ++ drop (length (take (length given) found)) before → Matched R given found → Filled R given before after (length given)
-filled_copied R given found before after is m =
+-- what is matched, copied into the first rows of a table
+pub filled_copied : {X Y : Type 0} (R : X → Y → Type 0) (given : List X) (found before copied : List Y) → length given ≤ length found → copied ≡ take (length given) found → Matched R given found → Filled R given before (copied ++ drop (length given) before) (length given)
+filled_copied R given found before copied room is m =
     let n = length given in
-    let k : length (take n found) ≤ n = simp length-take (omega arith) in
-    subst (λ t. Filled R given before t n) (sym is) (record {
+    let long : length (take n found) ≡ n = simp length-take (omega arith) in
+    subst (λ t. Filled R given before (t ++ drop n before) n) (sym is) (record {
       first = λ i x l s.
           let h = m.each i x s in
           record { item = h.item; stands = stands_front (take n found) _ i h.item (take_stands n found i h.item l h.stands); holds = h.holds };
-      later = drop-append-drop (length (take n found)) before (take n found) n k refl;
+      later = drop-append-drop n before (take n found) n (omega arith) long;
     })
 
 module _ {X Y : Type 0} (R : X → Y → Type 0) (given : List X) (before after : List Y) (n : ℕ) (all : n ≡ length given) (f : Filled R given before after n) where

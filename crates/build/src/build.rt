@@ -31,12 +31,8 @@ pub fn lay<M: Machine, N: Machine>(
     let tested = check(rows, &room)?;
     let places = &tested.places;
     fill_buses(rows.buses, buses);
-    fill_places(&places.first[..rows.first.len()], first);
-    fill_places(&places.second[..rows.second.len()], second);
+    fill_places(rows.first, &places.first, first);
+    fill_places(rows.second, &places.second, second);
     fill_branches(rows.branches, &places.ends, branches);
-    // Within 32 bits by the test: `try_from` would bring an error that never comes.
-    Ok(LaidCase {
-        tolerance: rows.tolerance.0 as u32,
-        counts: tested.counts,
-    })
+    Ok(tested.laid)
 }

@@ -1,12 +1,13 @@
 // The tables of a case, written from rows that have passed every test.
-ghost use Rattle.std.specs.Prelude.{◌≡◌, ◌≤◌, ◌++◌, List, length, drop, None};
+ghost use Rattle.std.specs.Prelude.{◌≤◌, List, length, None};
 ghost use Rattle.measure.specs.Rows.{Lowest};
 ghost use Rattle.build.specs.declared.rows.BusRow.{BusRow};
 ghost use Rattle.build.specs.Raw.{BusOf};
 ghost use Rattle.build.specs.Offer.{BusOutOfRange, BranchOutOfRange, BranchCrossed};
-ghost use Rattle.build.specs.Build.{EndsNamed, Filled, Joined, Matched};
+ghost use Rattle.build.specs.Build.{EndsNamed, Filled, Joined, Matched, Placed};
 
 use crate::rows::{BranchRow, BusRow};
+use machine::machine::Machine;
 use network::branch::{Branch, Ends};
 use network::bus::Bus;
 
@@ -22,12 +23,14 @@ pub(crate) fn fill_buses(rows: &[BusRow], table: &mut [Bus])
     }
 }
 
-// Writes the rows that machines' buses were found in.
-pub(crate) fn fill_places(places: &[u8], table: &mut [u8])
-    requires { length places.now ≤ length table.old }
-    ensures { table.new ≡ places.now ++ drop (length places.now) table.old }
+// Writes the rows in which the machines' buses were found.
+pub(crate) fn fill_places<M: Machine>(machines: &[M], places: &[u8], table: &mut [u8])
+    requires found { length machines.now ≤ length places.now }
+    requires room { length machines.now ≤ length table.old }
+    ensures { (buses : List BusRow) → Matched (Placed M.meaning buses) machines.now places.now → Filled (Placed M.meaning buses) machines.now table.old table.new (length machines.now) }
 {
-    table[..places.len()].copy_from_slice(places);
+    let count = machines.len();
+    table[..count].copy_from_slice(&places[..count]);
 }
 
 // Writes the branches of the rows, between the buses that were found.

@@ -53,7 +53,7 @@ pub struct LaidCase {
 }
 
 // Where the buses that are named stand: the row of each machine's bus in both groups, and the rows of the buses at the ends of each branch.
-// Room for the largest case, so that nothing is lent for them; what stands after the case's rows says nothing.
+// Tables of fixed size, for the largest case: the first rows of each are the case's.
 #[derive(Clone, Copy)]
 pub struct Places {
     pub first: [u8; MACHINES],
@@ -61,9 +61,9 @@ pub struct Places {
     pub ends: [Ends; BRANCHES],
 }
 
-// What the tests found: how many rows of each table the case has, and where the buses that it names stand.
+// What the tests found: the case that is to be laid, and where the buses that it names stand.
 #[derive(Clone, Copy)]
 pub struct Tested {
-    pub counts: Counts,
+    pub laid: LaidCase,
     pub places: Places,
 }

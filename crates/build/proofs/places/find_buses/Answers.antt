@@ -1,3 +1,5 @@
+use Rattle.std.proofs.Common.{length, rules}
+use Rattle.build.specs.Offer.{MachineUnknown, UnknownRow}
 use Rattle.std.proofs.lemmas.Result.{err_from_is_err_and}
 use Rattle.build.proofs.Known.{machines_known, in_first, in_second, in_branches}
 use Rattle.build.proofs.places.find_buses.Goals as goal
@@ -12,7 +14,8 @@ returns-in_err-find_places-2 g c =
     let o = c.args.rows.now in
     let p = err_from_is_err_and c.from_residual-in_err-find_places-2.result c.from_residual-in_err-find_places-2.ensures.1 in
     let first = machines_known g.M.Machine.meaning o.buses.now o.first.now _ c.in_ok-find_places.ensures in
-    rw (p.1, p.2) (in_second g.M.Machine.meaning g.N.Machine.meaning o _ first c.in_err-find_places-2.ensures)
+    let second : UnknownRow (length o.first.now) (MachineUnknown g.N.Machine.meaning o.buses.now o.second.now) c.in_err-find_places-2.field-0.0 = search rules in
+    rw (p.1, p.2) (in_second g.M.Machine.meaning g.N.Machine.meaning o _ first second)
 
 pub returns-in_err-find_ends : goal.returns-in_err-find_ends
 returns-in_err-find_ends g c =

@@ -26,8 +26,8 @@ pub loop-i-preserved : goal.loop-i-preserved
 loop-i-preserved c = (
   length-set c.loop-i.ends c.loop-i.i _ ∙ c.loop-i.invariant.0,
   matched_more (EndsNamed c.args.buses.now.rows.now) c.args.branches.now c.loop-i.ends c.loop-i.i _ c.in_ok-ends.field-0 (omega arith)
-  (stands_at c.args.branches.now c.loop-i.i _ c.loop-i-test.true) c.in_ok-ends.ensures
-  c.loop-i.invariant.1,
+      (stands_at c.args.branches.now c.loop-i.i _ c.loop-i-test.true) c.in_ok-ends.ensures
+      c.loop-i.invariant.1,
 )
 
 pub returns : goal.returns

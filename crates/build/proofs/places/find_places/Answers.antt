@@ -1,4 +1,4 @@
-use Rattle.std.proofs.Common.{refl, subst, arith, ◌∙◌}
+use Rattle.std.proofs.Common.{subst, arith, rules, ◌∙◌}
 use Rattle.std.proofs.lemmas.List.{length-set}
 use Rattle.measure.proofs.Sums.{stands_read}
 use Rattle.build.specs.Offer.{Lacks, Found}
@@ -15,7 +15,7 @@ returns-in_default g c =
     let stands = stands_read machines c.loop-i.i machine c.loop-i-test.true c.index-machines-i.is in
     record {
       row = c.loop-i.i;
-      is = refl;
+      is = search rules;
       lowest = (
         record { item = machine; stands = stands; holds = subst (Lacks buses) c.bus.ensures c.in_default.ensures },
         λ j l. machine_known g.M.Machine.meaning buses machines c.loop-i.places j (λ m s. c.loop-i.invariant.1 j m l s),
@@ -27,11 +27,12 @@ loop-i-preserved g c =
     let machines = c.args.machines.now in
     let buses = c.args.buses.now.rows.now in
     let machine = c.index-machines-i.result in
-    let stands = stands_read machines c.loop-i.i machine c.loop-i-test.true c.index-machines-i.is in (
+    let stands = stands_read machines c.loop-i.i machine c.loop-i-test.true c.index-machines-i.is in
+    let found : Found buses (g.M.Machine.meaning.bus machine) c.in-Some.row = subst (λ k. Found buses k c.in-Some.row) c.bus.ensures c.in-Some.ensures in (
       length-set c.loop-i.places c.loop-i.i _ ∙ c.loop-i.invariant.0,
-      matched_more (Placed g.M.Machine.meaning buses) machines c.loop-i.places c.loop-i.i machine c.in-Some.row (omega arith) stands
-      (subst (λ k. Found buses k c.in-Some.row) c.bus.ensures c.in-Some.ensures)
-      c.loop-i.invariant.1,
+      matched_more (Placed g.M.Machine.meaning buses) machines c.loop-i.places c.loop-i.i machine _ (omega arith) stands
+          (search rules)
+          c.loop-i.invariant.1,
     )
 
 pub returns : goal.returns

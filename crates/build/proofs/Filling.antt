@@ -1,11 +1,12 @@
 -- Tables filled row by row.
-use Rattle.std.proofs.Common.{◌≡◌, ℕ, zero, suc, ◌+◌, ◌<◌, ◌≤◌, min, List, [], ◌∷◌, Option, Some, None, length, take, drop, set, sym, refl, ap, ◌∙◌, subst, arith}
+use Rattle.std.proofs.Common.{◌≡◌, ℕ, zero, suc, ◌+◌, ◌<◌, ◌≤◌, min, List, [], ◌∷◌, ◌++◌, Option, Some, None, length, take, drop, set, sym, refl, ap, ◌∙◌, subst, arith}
 use native.Mathlib.Decide.{dec_lt}
 use Rattle.std.proofs.lemmas.List.{length-take, drop-drop, drop-set-lt}
+use Rattle.std.proofs.lemmas.Slice.{drop-append-drop}
 use Rattle.std.specs.Option.{IsSome}
 use Rattle.measure.specs.Rows.{Stands, HoldsAt}
 use Rattle.measure.proofs.Sums.{item_at, stands_one, stands_below}
-use Rattle.build.specs.Build.{Filled}
+use Rattle.build.specs.Build.{Filled, Matched}
 
 stands_set : {X : Type 0} (xs : List X) (i : ℕ) (y : X) → i < length xs → Stands (set xs i y) i y
 unfolding Stands
@@ -21,30 +22,35 @@ stands_set_other (z ∷ zs) zero (suc j) x y ne s = s
 stands_set_other (z ∷ zs) (suc i) zero x y ne s = s
 stands_set_other (z ∷ zs) (suc i) (suc j) x y ne s = stands_set_other zs i j x y (λ e. ne (ap suc e)) s
 
-module _ {X Y : Type 0} (R : X → Y → Type 0) (given : List X) (before : List Y) where
+-- the first n rows that were given have what R says of them
+abbrev pub MatchedTo : {X Y : Type 0} → (X → Y → Type 0) → List X → List Y → ℕ → Type 0
+MatchedTo R given found n = (i : ℕ) (x : _) → i < n → Stands given i x → HoldsAt (λ y. R x y.item) found i
+
+module _ {X Y : Type 0} (R : X → Y → Type 0) (given : List X) where
   -- one row more
+  pub matched_more : (found : List Y) (i : ℕ) (x : X) (y : Y) → i < length found → Stands given i x → R x y → MatchedTo R given found i → MatchedTo R given (set found i y) (i + 1)
+  matched_more found i x y h s r f k v l t = elim (dec_lt k i) [
+    | yes m ↦ let o = f k v m t in
+        record { item = o.item; stands = stands_set_other found i k o.item y (λ e. omega arith) o.stands; holds = o.holds }
+    | no m ↦ let e : k ≡ i = omega arith in
+        subst (λ n. HoldsAt (λ z. R v z.item) (set found i y) n) (sym e)
+        (record { item = y; stands = stands_set found i y h; holds = subst (λ (w : X). R w y) (stands_one given i x v s (subst (λ n. Stands given n v) e t)) r })
+  ]
+
+  pub matched_all : (found : List Y) (n : ℕ) → length given ≤ n → MatchedTo R given found n → Matched R given found
+  matched_all found n h f = record { each = λ i x s. let b = stands_below given i x s in f i x (omega arith) s }
+
+module _ {X Y : Type 0} (R : X → Y → Type 0) (given : List X) (before : List Y) where
+  -- the same of a table whose later rows stay
   pub filled_more : (after : List Y) (i : ℕ) (x : X) (y : Y) → i < length after → Stands given i x → R x y → Filled R given before after i → Filled R given before (set after i y) (i + 1)
   filled_more after i x y h s r f = record {
-    first = λ k v l t. elim (dec_lt k i) [
-      | yes m ↦ let o = f.first k v m t in
-          record { item = o.item; stands = stands_set_other after i k o.item y (λ e. omega arith) o.stands; holds = o.holds }
-      | no m ↦ let e : k ≡ i = omega arith in
-          subst (λ n. HoldsAt (λ z. R v z.item) (set after i y) n) (sym e)
-          (record { item = y; stands = stands_set after i y h; holds = subst (λ (w : X). R w y) (stands_one given i x v s (subst (λ n. Stands given n v) e t)) r })
-    ];
+    first = matched_more R given after i x y h s r f.first;
     later =
         drop-set-lt (i + 1) after i y (omega arith)
         ∙ sym (drop-drop 1 i after)
         ∙ ap (drop 1) f.later
         ∙ drop-drop 1 i before;
   }
-
--- the same table, said by a weaker relation
-pub filled_as : {X Y : Type 0} (R S : X → Y → Type 0) (given : List X) (before after : List Y) (n : ℕ) → ((x : X) (y : Y) → R x y → S x y) → Filled R given before after n → Filled S given before after n
-filled_as R S given before after n weaker f = record {
-  first = λ i x l s. let h = f.first i x l s in record { item = h.item; stands = h.stands; holds = weaker x h.item h.holds };
-  later = f.later;
-}
 
 -- an option that something holds of, and that it doesn't hold of where it is none
 pub some_made : {Y : Type 0} (P : Option Y → Type 0) (r : Option Y) → P r → (P None → ⊥) → IsSome r
@@ -68,6 +74,24 @@ take_stands (suc n) (y ∷ ys) (suc i) x l s = take_stands n ys i x (omega arith
 -- an item of a table's first rows is one of the table's
 pub stands_within : {X : Type 0} (n : ℕ) (xs : List X) (i : ℕ) (x : X) → Stands (take n xs) i x → Stands xs i x
 stands_within n xs i x s = (stands_take n xs i x s).1
+
+stands_front : {X : Type 0} (xs ys : List X) (i : ℕ) (x : X) → Stands xs i x → Stands (xs ++ ys) i x
+unfolding Stands
+stands_front [] ys i x s = absurd s
+stands_front (y ∷ xs) ys zero x s = s
+stands_front (y ∷ xs) ys (suc i) x s = stands_front xs ys i x s
+
+-- what is matched, copied into the first rows of a table
+pub filled_copied : {X Y : Type 0} (R : X → Y → Type 0) (given : List X) (found before copied : List Y) → length given ≤ length found → copied ≡ take (length given) found → Matched R given found → Filled R given before (copied ++ drop (length given) before) (length given)
+filled_copied R given found before copied room is m =
+    let n = length given in
+    let long : length (take n found) ≡ n = simp length-take (omega arith) in
+    subst (λ t. Filled R given before (t ++ drop n before) n) (sym is) (record {
+      first = λ i x l s.
+          let h = m.each i x s in
+          record { item = h.item; stands = stands_front (take n found) _ i h.item (take_stands n found i h.item l h.stands); holds = h.holds };
+      later = drop-append-drop n before (take n found) n (omega arith) long;
+    })
 
 module _ {X Y : Type 0} (R : X → Y → Type 0) (given : List X) (before after : List Y) (n : ℕ) (all : n ≡ length given) (f : Filled R given before after n) where
   -- each row that was given is filled

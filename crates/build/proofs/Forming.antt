@@ -1,5 +1,5 @@
 -- A case that is laid is well formed.
-use Rattle.std.proofs.Common.{◌≡◌, ℕ, ◌≤◌, List, length, get_or, take, sym, ap, ◌∙◌, subst, inr, arith}
+use Rattle.std.proofs.Common.{◌≡◌, ℕ, ◌≤◌, List, length, get_or, take, ℤ, pos, ◌≤ℤ◌, sym, ap, ◌∙◌, subst, inr, arith}
 use Rattle.std.proofs.lemmas.List.{length-take}
 use Rattle.measure.specs.Rows.{Stands}
 use Rattle.measure.proofs.Sums.{stands_one, stands-get_or}
@@ -12,7 +12,7 @@ use Rattle.network.specs.declared.branch.Branch.{Branch}
 use Rattle.build.specs.declared.rows.BusRow.{BusRow}
 use Rattle.build.specs.declared.rows.BranchRow.{BranchRow}
 use Rattle.build.specs.declared.tables.Rows.{Rows}
-use Rattle.build.specs.declared.tables.Sizes.{Sizes}
+use Rattle.build.specs.declared.tables.LaidCase.{LaidCase}
 use Rattle.build.specs.Raw.{BusOf}
 use Rattle.build.specs.Offer.{Found, HasBus}
 use Rattle.build.specs.Build.{Filled, Placed, Joined, Lent, Laid, TheRow, WellFormed, laid_case}
@@ -43,31 +43,31 @@ the_row given before after n all f d name i found =
 few : {X : Type 0} (n m : ℕ) (xs : List X) → length xs ≤ m → length (take n xs) ≤ m
 few n m xs h = simp length-take (omega arith)
 
-module _ {M N : Type 0} (𝓜 : Meaning M) (𝓝 : Meaning N) (o : Rows M N) (before after : Lent) (n : Sizes ℕ) (l : Laid 𝓜 𝓝 o before after n) where
+module _ {M N : Type 0} (𝓜 : Meaning M) (𝓝 : Meaning N) (o : Rows M N) (before after : Lent) (n : LaidCase) (l : Laid 𝓜 𝓝 o before after n) where
   bus_names : Distinct ◌≡◌ (λ (b : BusRow). b.name) o.buses.now
   bus_names = distinct ◌≡◌ (λ (b : BusRow). b.name) o.buses.now equality l.accepted.names.buses
 
   branch_names : Distinct ◌≡◌ (λ (b : BranchRow). b.name) o.branches.now
   branch_names = distinct ◌≡◌ (λ (b : BranchRow). b.name) o.branches.now equality l.accepted.names.branches
 
-  found : (name i : ℕ) → Found o.buses.now name i → TheRow (take n.buses after.buses) name i
-  found = the_row o.buses.now before.buses after.buses n.buses l.counted.buses l.buses bus_names
+  found : (name i : ℕ) → Found o.buses.now name i → TheRow (take n.counts.buses after.buses) name i
+  found = the_row o.buses.now before.buses after.buses n.counts.buses l.counted.buses l.buses bus_names
 
-  row_of : (i : ℕ) (b : Branch) → Stands (take n.branches after.branches) i b → (r : BranchRow) × Stands o.branches.now i r × Joined o.buses.now r b
-  row_of = filled_back (Joined o.buses.now) o.branches.now before.branches after.branches n.branches l.counted.branches l.branches
+  row_of : (i : ℕ) (b : Branch) → Stands (take n.counts.branches after.branches) i b → (r : BranchRow) × Stands o.branches.now i r × Joined o.buses.now r b
+  row_of = filled_back (Joined o.buses.now) o.branches.now before.branches after.branches n.counts.branches l.counted.branches l.branches
 
-  placed : {K : Type 0} (𝓚 : Meaning K) (machines : List K) (was places : List ℕ) (k : ℕ) → k ≡ length machines → Filled (Placed 𝓚 o.buses.now) machines was places k → (i : ℕ) (m : K) → Stands (take k machines) i m → TheRow (take n.buses after.buses) (𝓚.bus m) (get_or places i 0)
+  placed : {K : Type 0} (𝓚 : Meaning K) (machines : List K) (was places : List ℕ) (k : ℕ) → k ≡ length machines → Filled (Placed 𝓚 o.buses.now) machines was places k → (i : ℕ) (m : K) → Stands (take k machines) i m → TheRow (take n.counts.buses after.buses) (𝓚.bus m) (get_or places i 0)
   placed 𝓚 machines was places k all f i m s =
       let t = filled_forth (Placed 𝓚 o.buses.now) machines was places k all f i m (stands_within k machines i m s) in
       found (𝓚.bus m) (get_or places i 0)
       (subst (Found o.buses.now (𝓚.bus m)) (stands-get_or places i t.item 0 (stands_within k places i t.item t.stands)) t.holds)
 
-  from_end : (i : ℕ) (b : Branch) → Stands (take n.branches after.branches) i b → TheRow (take n.buses after.buses) b.name.from b.ends.from
+  from_end : (i : ℕ) (b : Branch) → Stands (take n.counts.branches after.branches) i b → TheRow (take n.counts.buses after.buses) b.name.from b.ends.from
   from_end i b s =
       let r = row_of i b s in
       found b.name.from b.ends.from (subst (λ (k : BranchName). Found o.buses.now k.from b.ends.from) (sym r.2.row.name) r.2.from)
 
-  to_end : (i : ℕ) (b : Branch) → Stands (take n.branches after.branches) i b → TheRow (take n.buses after.buses) b.name.to b.ends.to
+  to_end : (i : ℕ) (b : Branch) → Stands (take n.counts.branches after.branches) i b → TheRow (take n.counts.buses after.buses) b.name.to b.ends.to
   to_end i b s =
       let r = row_of i b s in
       found b.name.to b.ends.to (subst (λ (k : BranchName). Found o.buses.now k.to b.ends.to) (sym r.2.row.name) r.2.to)
@@ -77,7 +77,7 @@ module _ {M N : Type 0} (𝓜 : Meaning M) (𝓝 : Meaning N) (o : Rows M N) (be
   one_name from to i j h k e =
       sym h.holds ∙ ap (λ (b : BusRow). b.name) (stands_one o.buses.now j h.item k.item (subst (λ m. Stands o.buses.now m h.item) e h.stands) k.stands) ∙ k.holds
 
-  differ : (i : ℕ) (b : Branch) → Stands (take n.branches after.branches) i b → b.ends.from ≡ b.ends.to → ⊥
+  differ : (i : ℕ) (b : Branch) → Stands (take n.counts.branches after.branches) i b → b.ends.from ≡ b.ends.to → ⊥
   differ i b s e =
       let r = row_of i b s in
       let same = one_name r.0.name.from r.0.name.to b.ends.from b.ends.to r.2.from.0 r.2.to.0 e in
@@ -85,19 +85,19 @@ module _ {M N : Type 0} (𝓜 : Meaning M) (𝓝 : Meaning N) (o : Rows M N) (be
 
   pub well_formed : WellFormed 𝓜 𝓝 (laid_case o after n)
   well_formed =
-      let buses = filled_length BusOf o.buses.now before.buses after.buses n.buses l.counted.buses l.buses in
-      let branches = filled_length (Joined o.buses.now) o.branches.now before.branches after.branches n.branches l.counted.branches l.branches in
+      let buses = filled_length BusOf o.buses.now before.buses after.buses n.counts.buses l.counted.buses l.buses in
+      let branches = filled_length (Joined o.buses.now) o.branches.now before.branches after.branches n.counts.branches l.counted.branches l.branches in
       let sizes = l.accepted.sizes in
       record {
-        tolerance = sizes.tolerance;
+        tolerance = subst (λ (z : ℤ). (pos 0 ≤ℤ z) × (z ≤ℤ pos 100000)) (sym l.tolerance) sizes.tolerance;
         bus_count = rw buses sizes.buses;
-        first_count = few n.first 30 o.first.now sizes.first;
-        second_count = few n.second 30 o.second.now sizes.second;
+        first_count = few n.counts.first 30 o.first.now sizes.first;
+        second_count = few n.counts.second 30 o.second.now sizes.second;
         branch_count = rw branches sizes.branches;
-        bus_names = distinct_filled BusOf (λ b. b.name) (λ b. b.name) (λ x y r. r.name) o.buses.now before.buses after.buses n.buses l.counted.buses l.buses bus_names;
-        branch_names = distinct_filled (Joined o.buses.now) (λ b. b.name) (λ b. b.name) (λ x y r. r.row.name) o.branches.now before.branches after.branches n.branches l.counted.branches l.branches branch_names;
-        first_places = placed 𝓜 o.first.now before.first after.first n.first l.counted.first l.first;
-        second_places = placed 𝓝 o.second.now before.second after.second n.second l.counted.second l.second;
+        bus_names = distinct_filled BusOf (λ b. b.name) (λ b. b.name) (λ x y r. r.name) o.buses.now before.buses after.buses n.counts.buses l.counted.buses l.buses bus_names;
+        branch_names = distinct_filled (Joined o.buses.now) (λ b. b.name) (λ b. b.name) (λ x y r. r.row.name) o.branches.now before.branches after.branches n.counts.branches l.counted.branches l.branches branch_names;
+        first_places = placed 𝓜 o.first.now before.first after.first n.counts.first l.counted.first l.first;
+        second_places = placed 𝓝 o.second.now before.second after.second n.counts.second l.counted.second l.second;
         from_ends = from_end;
         to_ends = to_end;
         ends_differ = differ;

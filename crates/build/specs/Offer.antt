@@ -100,10 +100,12 @@ module _ {M N : Type 0} (o : Rows M N) where
     pub buses : Lowest (BusRepeated o.buses.now) None
     pub branches : Lowest (BranchRepeated o.branches.now) None
 
-  -- what is offered is small enough to be counted through
+  -- no table has more rows than the largest case
   pub record Few : Type 0 where
     pub buses : length o.buses.now ≤ 100
-    pub rows : length o.first.now + length o.second.now + length o.branches.now ≤ 1000
+    pub first : length o.first.now ≤ 30
+    pub second : length o.second.now ≤ 30
+    pub branches : length o.branches.now ≤ 200
 
   -- the counts are those of what is offered
   pub record Counted (n : Sizes ℕ) : Type 0 where

@@ -1,14 +1,15 @@
 // The tests of what is offered, in their order. Nothing is written here.
-ghost use Rattle.std.specs.Prelude.{None, MatchResult};
+ghost use Rattle.std.specs.Prelude.{◌≡◌, pos, None, MatchResult};
 ghost use Rattle.network.specs.declared.refusal.Refusal.TheVariants.{OutOfRange, Crossed, Repeated};
 ghost use Rattle.measure.specs.Rows.{HoldsAt, Lowest};
 ghost use Rattle.names.specs.Names.{Repeats};
 ghost use Rattle.build.specs.Offer.{BranchCrossed, RowRefused, Counted, Accepted, Refused};
+ghost use Rattle.build.specs.Build.{PlacesFound};
 
-use crate::places::check_buses;
+use crate::places::find_buses;
 use crate::rows::{BranchRow, Ranged};
-use crate::size::counts;
-use crate::tables::{Counts, Room, Rows};
+use crate::size::sized;
+use crate::tables::{Room, Rows, Tested};
 use machine::machine::Machine;
 use names::list::NameList;
 use names::name::Named;
@@ -45,16 +46,16 @@ fn check_names<R: Named>(rows: &[R]) -> Result<(), Refusal>
     }
 }
 
-// Every test in its order: how many rows of each table the case has, or the first refusal that applies.
-pub fn check<M: Machine, N: Machine>(rows: &Rows<M, N>, room: &Room) -> Result<Counts, Refusal>
-    ensures { MatchResult result (λ n. Accepted M.meaning N.meaning rows.now room.now × Counted rows.now n) (λ e. Refused M.meaning N.meaning rows.now room.now e) }
+// Every test in its order: the tolerance and the counts of the case and where the buses that it names stand, or the first refusal that applies.
+pub fn check<M: Machine, N: Machine>(rows: &Rows<M, N>, room: &Room) -> Result<Tested, Refusal>
+    ensures { MatchResult result (λ t. Accepted M.meaning N.meaning rows.now room.now × (pos t.laid.tolerance ≡ rows.now.tolerance.0) × Counted rows.now t.laid.counts × PlacesFound M.meaning N.meaning rows.now t.places) (λ e. Refused M.meaning N.meaning rows.now room.now e) }
 {
     check_ranges(rows.buses)?;
     check_ranges(rows.branches)?;
     check_limits(rows.branches)?;
-    let counts = counts(rows, room)?;
+    let laid = sized(rows, room)?;
     check_names(rows.buses)?;
     check_names(rows.branches)?;
-    check_buses(rows)?;
-    Ok(counts)
+    let places = find_buses(rows)?;
+    Ok(Tested { laid, places })
 }

@@ -1,28 +1,28 @@
 // Names resolved to rows of the table of buses.
-ghost use Rattle.std.specs.Prelude.{◌+◌, ◌≤◌, length, None, MatchOption, MatchResult};
-ghost use Rattle.measure.specs.Rows.{Lowest};
-ghost use Rattle.build.specs.Raw.{BranchInRange, CrossedLimits};
+ghost use Rattle.std.specs.Prelude.{◌≡◌, ◌≤◌, length, MatchOption, MatchResult};
+ghost use Rattle.network.specs.declared.refusal.Refusal.TheVariants.{UnknownBus};
 ghost use Rattle.build.specs.Offer.{Few, Found, Lacks, EndsUnknown, EndsFound, MachineUnknown, BranchUnknown, Unknown, UnknownRow};
-ghost use Rattle.build.specs.Build.{Placed, Joined};
+ghost use Rattle.build.specs.Build.{EndsNamed, Matched, Placed, PlacesFound};
 
 use crate::rows::{BranchRow, BusRow};
-use crate::tables::Rows;
+use crate::tables::{Places, Rows};
 use machine::machine::Machine;
 use names::branch::BranchName;
 use names::list::NameList;
-use network::branch::{Branch, Ends};
+use network::branch::Ends;
 use network::refusal::Refusal;
+use network::size::{BRANCHES, MACHINES};
 
 // The buses that are offered, as they are found by name: few enough for a row of 8 bits.
 #[derive(Drop)]
-pub(crate) struct BusNames<'r> {
-    pub(crate) rows: &'r [BusRow],
+struct BusNames<'r> {
+    rows: &'r [BusRow],
     ghost few: { length rows.now ≤ 100 },
 }
 
 impl<'r> BusNames<'r> {
     // The lowest row of a bus with the name, or none.
-    pub(crate) fn row_of(&self, name: u32) -> Option<u8>
+    fn find(&self, name: u32) -> Option<u8>
         ensures { MatchOption result (Lacks self.now.rows.now name) (λ i. Found self.now.rows.now name i) }
     {
         // Of at most 100 rows, so that 8 bits hold it.
@@ -30,76 +30,71 @@ impl<'r> BusNames<'r> {
         Some(row as u8)
     }
 
-    // The rows of the buses that the name gives, or none where one is not there or both are one.
-    pub(crate) fn ends_of(&self, name: &BranchName) -> Option<Ends>
-        ensures { MatchOption result (EndsUnknown self.now.rows.now name.now.from name.now.to) (λ e. EndsFound self.now.rows.now name.now.from name.now.to e) }
+    // The rows of the buses that the name gives; refused as that row where one is not there or both are one.
+    fn ends_of(&self, name: &BranchName, row: usize) -> Result<Ends, Refusal>
+        ensures { MatchResult result (λ e. EndsFound self.now.rows.now name.now.from name.now.to e) (λ e. (e ≡ UnknownBus row) × EndsUnknown self.now.rows.now name.now.from name.now.to) }
     {
-        // By `?`: a bus that is not there is refused where its row is known, below.
-        let from = self.row_of(name.from)?;
-        let to = self.row_of(name.to)?;
+        let Some(from) = self.find(name.from) else {
+            return Err(Refusal::UnknownBus(row));
+        };
+        let Some(to) = self.find(name.to) else {
+            return Err(Refusal::UnknownBus(row));
+        };
         if name.from == name.to {
-            return None;
+            return Err(Refusal::UnknownBus(row));
         }
-        Some(Ends { from, to })
-    }
-
-    // The row of the machine's bus, or none where the bus is not there.
-    pub(crate) fn place_of<M: Machine>(&self, machine: &M) -> Option<u8>
-        ensures { MatchOption result (Lacks self.now.rows.now (M.meaning.bus machine.now)) (Placed M.meaning self.now.rows.now machine.now) }
-    {
-        self.row_of(machine.bus())
-    }
-
-    // The branch of the row between the buses that it names, or none where there is no such branch.
-    pub(crate) fn branch_of(&self, row: &BranchRow) -> Option<Branch>
-        ensures { MatchOption result (BranchInRange row.now → (CrossedLimits row.now → ⊥) → (EndsUnknown self.now.rows.now row.now.name.from row.now.name.to → ⊥) → ⊥) (Joined self.now.rows.now row.now) }
-    {
-        let ends = self.ends_of(&row.name)?;
-        row.branch(ends)
+        Ok(Ends { from, to })
     }
 }
 
-// Tests that each machine's bus is offered; so many rows stand before the group.
-fn check_machines<M: Machine>(
+// The row of each machine's bus, or the refusal of the lowest machine whose bus is not offered; so many rows stand before the group.
+fn find_places<M: Machine>(
     buses: &BusNames,
     machines: &[M],
     before: usize,
-) -> Result<(), Refusal>
-    requires { before + length machines.now ≤ 1000 }
-    ensures { MatchResult result (λ _. Lowest (MachineUnknown M.meaning buses.now.rows.now machines.now) None) (λ e. UnknownRow before (MachineUnknown M.meaning buses.now.rows.now machines.now) e) }
+) -> Result<[u8; MACHINES], Refusal>
+    requires few { length machines.now ≤ 30 }
+    requires counted { before ≤ 1000 }
+    ensures { MatchResult result (Matched (Placed M.meaning buses.now.rows.now) machines.now) (λ e. UnknownRow before (MachineUnknown M.meaning buses.now.rows.now machines.now) e) }
 {
-    // The row is part of the refusal. A name that is looked up and is not there is met by `let .. else`, a form that
-    // docs/DECISIONS.md lists.
+    let mut places = [0; MACHINES];
     for (i, machine) in machines.iter().enumerate() {
-        let Some(_row) = buses.place_of(machine) else {
+        let Some(row) = buses.find(machine.bus()) else {
             return Err(Refusal::UnknownBus(before + i));
         };
+        places[i] = row;
     }
-    Ok(())
+    Ok(places)
 }
 
-// Tests that the buses at both ends of each branch are offered and differ; so many rows stand before the branches.
-// Not one function with the test of machines: each names what it looks for, and refuses by its own `let .. else`.
-fn check_branches(buses: &BusNames, branches: &[BranchRow], before: usize) -> Result<(), Refusal>
-    requires { before + length branches.now ≤ 1000 }
-    ensures { MatchResult result (λ _. Lowest (BranchUnknown buses.now.rows.now branches.now) None) (λ e. UnknownRow before (BranchUnknown buses.now.rows.now branches.now) e) }
+// The rows of the buses at both ends of each branch, or the refusal of the lowest branch of which one is not offered or both are one; so many
+// rows stand before the branches.
+fn find_ends(
+    buses: &BusNames,
+    branches: &[BranchRow],
+    before: usize,
+) -> Result<[Ends; BRANCHES], Refusal>
+    requires few { length branches.now ≤ 200 }
+    requires counted { before ≤ 1000 }
+    ensures { MatchResult result (Matched (EndsNamed buses.now.rows.now) branches.now) (λ e. UnknownRow before (BranchUnknown buses.now.rows.now branches.now) e) }
 {
+    let mut ends = [Ends { from: 0, to: 0 }; BRANCHES];
     for (i, branch) in branches.iter().enumerate() {
-        let Some(_ends) = buses.ends_of(&branch.name) else {
-            return Err(Refusal::UnknownBus(before + i));
-        };
+        ends[i] = buses.ends_of(&branch.name, before + i)?;
     }
-    Ok(())
+    Ok(ends)
 }
 
-// Tests that every bus that is named is offered.
-pub(crate) fn check_buses<M: Machine, N: Machine>(rows: &Rows<M, N>) -> Result<(), Refusal>
+// Where the buses that are named stand. Each name is looked up once.
+pub(crate) fn find_buses<M: Machine, N: Machine>(rows: &Rows<M, N>) -> Result<Places, Refusal>
     requires { Few rows.now }
-    ensures { MatchResult result (λ _. Lowest (Unknown M.meaning N.meaning rows.now) None) (λ e. UnknownRow 0 (Unknown M.meaning N.meaning rows.now) e) }
+    ensures { MatchResult result (PlacesFound M.meaning N.meaning rows.now) (λ e. UnknownRow 0 (Unknown M.meaning N.meaning rows.now) e) }
 {
     let buses = BusNames { rows: rows.buses };
     let (first, second) = (rows.first.len(), rows.second.len());
-    check_machines(&buses, rows.first, 0)?;
-    check_machines(&buses, rows.second, first)?;
-    check_branches(&buses, rows.branches, first + second)
+    Ok(Places {
+        first: find_places(&buses, rows.first, 0)?,
+        second: find_places(&buses, rows.second, first)?,
+        ends: find_ends(&buses, rows.branches, first + second)?,
+    })
 }

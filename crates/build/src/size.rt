@@ -1,16 +1,16 @@
 // The sizes of a case.
-ghost use Rattle.std.specs.Prelude.{◌≡◌, MatchResult};
+ghost use Rattle.std.specs.Prelude.{◌≡◌, pos, MatchResult};
 ghost use Rattle.network.specs.declared.refusal.Refusal.TheVariants.{Size};
 ghost use Rattle.build.specs.Offer.{SizesKept, Counted};
 
-use crate::tables::{Counts, Room, Rows, Sizes};
+use crate::tables::{Counts, LaidCase, Room, Rows, Sizes};
 use measure::range::is_between;
 use network::refusal::Refusal;
 use network::size::{BRANCHES, BUSES, MACHINES, TOLERANCE};
 
-// How many rows of each table the case has; refused where a size or the tolerance is outside its limits, or a lent table is too short.
-pub(crate) fn counts<M, N>(rows: &Rows<M, N>, room: &Room) -> Result<Counts, Refusal>
-    ensures { MatchResult result (λ n. SizesKept rows.now room.now × Counted rows.now n) (λ e. (e ≡ Size) × (SizesKept rows.now room.now → ⊥)) }
+// The tolerance, and how many rows of each table the case has; refused where a size or the tolerance is outside its limits, or a lent table is too short.
+pub(crate) fn sized<M, N>(rows: &Rows<M, N>, room: &Room) -> Result<LaidCase, Refusal>
+    ensures { MatchResult result (λ n. SizesKept rows.now room.now × (pos n.tolerance ≡ rows.now.tolerance.0) × Counted rows.now n.counts) (λ e. (e ≡ Size) × (SizesKept rows.now room.now → ⊥)) }
 {
     let Sizes {
         buses,
@@ -27,13 +27,17 @@ pub(crate) fn counts<M, N>(rows: &Rows<M, N>, room: &Room) -> Result<Counts, Ref
         & (first <= room.first)
         & (second <= room.second)
         & (branches <= room.branches);
-    // Each number is within 8 bits by the test: `try_from` would bring an error that never comes.
+    // The tolerance is within 32 bits by the test and each count within 8: `try_from` would bring an error that never comes.
     if small & fits {
-        Ok(Counts {
+        let counts = Counts {
             buses: buses as u8,
             first: first as u8,
             second: second as u8,
             branches: branches as u8,
+        };
+        Ok(LaidCase {
+            tolerance: rows.tolerance.0 as u32,
+            counts,
         })
     } else {
         Err(Refusal::Size)

@@ -1,8 +1,10 @@
-// The tables that a case is built from, the room in the tables that it is built in, and how many rows of each it has.
+// The tables that a case is built from, the room in the tables that it is built in, and the case that was laid in them.
 ghost use Rattle.std.specs.Prelude.{◌≡◌, length};
 
 use crate::rows::{BranchRow, BusRow};
 use measure::Watts;
+use network::branch::Ends;
+use network::size::{BRANCHES, MACHINES};
 
 // What is offered: the tolerance of the balance, buses, machines of two kinds and branches.
 #[derive_where(Clone, Copy)]
@@ -42,3 +44,26 @@ pub type Room = Sizes<usize>;
 
 // How many rows of each table the case has: so few that 8 bits hold each number.
 pub type Counts = Sizes<u8>;
+
+// A case that was laid: the tolerance of its balance in watts, and how many rows of each table are its own.
+#[derive(Clone, Copy, PartialEq, Eq, Debug)]
+pub struct LaidCase {
+    pub tolerance: u32,
+    pub counts: Counts,
+}
+
+// Where the buses that are named stand: the row of each machine's bus in both groups, and the rows of the buses at the ends of each branch.
+// Tables of fixed size, for the largest case: the first rows of each are the case's.
+#[derive(Clone, Copy)]
+pub struct Places {
+    pub first: [u8; MACHINES],
+    pub second: [u8; MACHINES],
+    pub ends: [Ends; BRANCHES],
+}
+
+// What the tests found: the case that is to be laid, and where the buses that it names stand.
+#[derive(Clone, Copy)]
+pub struct Tested {
+    pub laid: LaidCase,
+    pub places: Places,
+}

@@ -1,7 +1,7 @@
 // A case of two buses, a machine at each and a branch between them, and what one wrong number in it is refused for.
 use build::build::lay;
 use build::rows::{BranchRow, BusRow};
-use build::tables::{Counts, Rows};
+use build::tables::{Counts, LaidCase, Rows};
 use curved::curved::Curved;
 use measure::{Microradians, Watts};
 use names::branch::BranchName;
@@ -45,7 +45,7 @@ fn laid<'x>(
     first: u32,
     second: u32,
     branches: &'x [BranchRow],
-) -> Result<Counts, Refusal> {
+) -> Result<LaidCase, Refusal> {
     let rows = Rows {
         tolerance: Watts(5),
         buses,
@@ -72,7 +72,10 @@ fn a_case_is_laid(rt: HostRuntime) {
     };
     assert_eq!(rt;
         laid(&[bus(7), bus(4)], 4, 7, &[branch(1, 4, 7), branch(1, 7, 4)]),
-        Ok(counts)
+        Ok(LaidCase {
+            tolerance: 5,
+            counts,
+        })
     );
 }
 

@@ -21,17 +21,12 @@ use Rattle.case_paper.specs.CaseFault.{LawfulCase}
 use Rattle.case_paper.specs.Rows.{tolerance_of}
 use Rattle.case_paper.specs.declared.fault.CaseFault.{CaseFault}
 use Rattle.case_paper.specs.declared.fault.CaseFault.TheVariants.{Record, Repeats, Lacks}
-use Rattle.case_tables.specs.declared.read.ReadCase.{ReadCase}
+use Rattle.build.specs.declared.tables.LaidCase.{LaidCase}
 use Rattle.case_tables.specs.declared.rows.CaseRows.{CaseRows}
 use Rattle.case_tables.specs.Rows.{Offers}
 use Rattle.case_tables.specs.Held.{Holds, CountedCase}
 use Rattle.case_tables.specs.Read.{Tables, tables, rows_provided, laid_in, Offered, Written, held_case, CaseRead, Unread, NotRead, Reported}
 use Rattle.case_tables.proofs.Ranges.{first_count, second_count}
-
--- a number from 0 on is its size
-pub from_zero : (z : ℤ) → pos 0 ≤ℤ z → pos (nat_abs z) ≡ z
-from_zero (pos n) h = refl
-from_zero (negsuc n) h = absurd (omega (arith, ints))
 
 -- ---- a result whose errors are told otherwise: the error that is told
 pub error_told : {T E F : Type 0} (r : Result T E) (s : Result T F) (P : T → Type 0) (Q : E → Type 0) (R : E → F → Type 0) (f : F) → s ≡ Err f → MatchResult r (λ y. s ≡ Ok y) (λ e. IsErrAnd s (R e)) → MatchResult r P Q → (e : E) × (R e f × Q e)
@@ -85,28 +80,28 @@ module _ (w : List ℕ) (t : Tables) (l : LawfulCase (rows_provided t) w) where
     written_same xs before after n e a =
         take_all n xs (omega arith) ∙ sym (ap (take n) a ∙ take_at xs (drop (length xs) before) n (sym e))
 
-    module _ (after : Tables) (v : ReadCase) (laid : Laid stepped_meaning curved_meaning o (laid_in t) (laid_in after) v.counts) (allows : pos v.tolerance ≡ o.tolerance.0) (first : Written o.first.now t.stepped after.stepped) (second : Written o.second.now t.curved after.curved) where
+    module _ (after : Tables) (v : LaidCase) (laid : Laid stepped_meaning curved_meaning o (laid_in t) (laid_in after) v) (first : Written o.first.now t.stepped after.stepped) (second : Written o.second.now t.curved after.curved) where
       -- the tables hold the case that was laid
-      held : laid_case o (laid_in after) v.counts ≡ held_case v after
+      held : laid_case o (laid_in after) v ≡ held_case v after
       held =
           let m = written_same o.first.now t.stepped after.stepped v.counts.first laid.counted.first first in
           let n = written_same o.second.now t.curved after.curved v.counts.second laid.counted.second second in
           λ i. record {
-            tolerance = sym allows i;
+            tolerance = pos v.tolerance;
             buses = take v.counts.buses after.buses;
             first = record { machines = m i; place = λ k. get_or after.first k 0 };
             second = record { machines = n i; place = λ k. get_or after.second k 0 };
             branches = take v.counts.branches after.branches;
           }
 
-      pub case_read : WellFormed stepped_meaning curved_meaning (laid_case o (laid_in after) v.counts) → CaseRead w t after v
+      pub case_read : WellFormed stepped_meaning curved_meaning (laid_case o (laid_in after) v) → CaseRead w t after v
       case_read formed =
           record {
             lawful = l;
             offer = o;
             offered = f;
             laid = laid;
-            tolerance = allows ∙ f.allows;
+            tolerance = laid.tolerance ∙ f.allows;
             stepped = subst (λ (xs : List Stepped). Written xs t.stepped after.stepped) f.first first;
             curved = subst (λ (xs : List Curved). Written xs t.curved after.curved) f.second second;
             formed = subst (WellFormed stepped_meaning curved_meaning) held formed;

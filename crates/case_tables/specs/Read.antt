@@ -17,7 +17,7 @@ use Rattle.case_paper.specs.CaseFault.{LawfulCase, RefusedCase}
 use Rattle.case_paper.specs.Rows.{tolerance_of}
 use Rattle.case_paper.specs.declared.fault.CaseFault.{CaseFault}
 use Rattle.case_paper.specs.declared.fault.CaseFault.TheVariants.{Record, Repeats, Lacks}
-use Rattle.case_tables.specs.declared.read.ReadCase.{ReadCase}
+use Rattle.build.specs.declared.tables.LaidCase.{LaidCase}
 use Rattle.case_tables.specs.Rows.{stepped_rows, curved_rows, Offers}
 
 -- the lent tables; `first` and `second` take the rows of the machines' buses
@@ -51,7 +51,7 @@ abbrev pub Written : {X : Type 0} → List X → List X → List X → Type 0
 Written xs before after = after ≡ xs ++ drop (length xs) before
 
 -- the case that the tables hold
-abbrev pub held_case : ReadCase → Tables → Case Stepped Curved
+abbrev pub held_case : LaidCase → Tables → Case Stepped Curved
 held_case v t =
     record {
       tolerance = pos v.tolerance;
@@ -62,11 +62,11 @@ held_case v t =
     }
 
 -- the words are a lawful case that repeats no name and lacks no bus, and the tables hold it
-pub record CaseRead (w : List ℕ) (before after : Tables) (v : ReadCase) : Type 0 where
+pub record CaseRead (w : List ℕ) (before after : Tables) (v : LaidCase) : Type 0 where
   pub lawful : LawfulCase (rows_provided before) w
   pub offer : Rows Stepped Curved
   pub offered : Offered lawful.form offer
-  pub laid : Laid stepped_meaning curved_meaning offer (laid_in before) (laid_in after) v.counts
+  pub laid : Laid stepped_meaning curved_meaning offer (laid_in before) (laid_in after) v
   pub tolerance : pos v.tolerance ≡ tolerance_of lawful.form
   pub stepped : Written (stepped_rows lawful.form.records) before.stepped after.stepped
   pub curved : Written (curved_rows lawful.form.records) before.curved after.curved
@@ -92,7 +92,7 @@ pub record NotRead (w : List ℕ) (before after : Tables) (f : CaseFault) : Type
   pub untouched : after ≡ before
 
 -- read, or refused
-abbrev pub Outcome : List ℕ → Tables → Tables → Result ReadCase CaseFault → Type 0
+abbrev pub Outcome : List ℕ → Tables → Tables → Result LaidCase CaseFault → Type 0
 Outcome w before after r = MatchResult r (CaseRead w before after) (NotRead w before after)
 
 -- ---- one outcome
@@ -105,7 +105,7 @@ pub record Readable (w : List ℕ) (t : Tables) : Type 0 where
 
 -- what is read is readable, what is readable is not refused, and what is refused is so by one fault
 pub record ReadExact : Type 0 where
-  pub read : (w : List ℕ) (before after : Tables) (v : ReadCase) → CaseRead w before after v → Readable w before
+  pub read : (w : List ℕ) (before after : Tables) (v : LaidCase) → CaseRead w before after v → Readable w before
   pub accepted : (w : List ℕ) (t : Tables) (f : CaseFault) → Readable w t → Unread w t f → ⊥
   pub once : (w : List ℕ) (t : Tables) (f g : CaseFault) → Unread w t f → Unread w t g → f ≡ g
 

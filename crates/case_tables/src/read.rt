@@ -5,7 +5,7 @@ ghost use Rattle.case_tables.specs.Read.{tables, rows_provided, Written, Outcome
 
 use crate::walk::read_rows;
 use build::build::lay;
-use build::tables::Counts;
+use build::tables::LaidCase;
 use case_paper::case::check_case;
 use case_paper::fault::CaseFault;
 use curved::curved::Curved;
@@ -15,13 +15,6 @@ use network::bus::Bus;
 use network::refusal::Refusal;
 use stepped::stepped::Stepped;
 use word::amount::amount;
-
-// A case that was read: its tolerance in watts, and how many rows of each table it has.
-#[derive(Clone, Copy, PartialEq, Eq, Debug)]
-pub struct ReadCase {
-    pub tolerance: u32,
-    pub counts: Counts,
-}
 
 // How many records of each sort the tables have rows for. Six tables, as `read_case` is lent them.
 fn rows_provided(
@@ -73,7 +66,7 @@ pub fn read_case(
     curved: &mut [Curved],
     second: &mut [u8],
     branches: &mut [Branch],
-) -> Result<ReadCase, CaseFault>
+) -> Result<LaidCase, CaseFault>
     ensures { Outcome words.now (tables buses.old stepped.old first.old curved.old second.old branches.old) (tables buses.new stepped.new first.new curved.new second.new branches.new) result }
 {
     let room = rows_provided(buses, stepped, first, curved, second, branches);
@@ -81,12 +74,8 @@ pub fn read_case(
     let rows = read_rows(words);
     let tolerance = amount(words[1]);
     let offer = rows.offer(Watts(tolerance));
-    let counts = lay(&offer, buses, first, second, branches).map_err(name_fault)?;
+    let laid = lay(&offer, buses, first, second, branches).map_err(name_fault)?;
     write_rows(offer.first, stepped);
     write_rows(offer.second, curved);
-    // The tolerance is from 0 to 100000 by the test of the words: `try_from` would give up at a place that is never reached.
-    Ok(ReadCase {
-        tolerance: tolerance as u32,
-        counts,
-    })
+    Ok(laid)
 }

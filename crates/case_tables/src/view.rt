@@ -3,17 +3,17 @@ ghost use Rattle.std.specs.Prelude.{◌≡◌};
 ghost use Rattle.network.specs.View.{case_of};
 ghost use Rattle.case_tables.specs.Read.{tables, held_case};
 
-use crate::read::ReadCase;
+use build::tables::LaidCase;
 use curved::curved::Curved;
 use network::branch::Branch;
 use network::bus::Bus;
 use network::case::{Case, Machines};
 use stepped::stepped::Stepped;
 
-// A view of the case in the tables that it was read into. Not by build's view: that one asks for a tolerance in its range, and a `ReadCase` may hold any.
-// Six tables, as `read_case` is lent them.
+// A view of the case in the tables that it was read into. Not by build's view: that one takes the machines from the rows that were offered, and
+// here they stand in lent tables too. Six tables, as `read_case` is lent them.
 pub fn view<'a>(
-    read: ReadCase,
+    read: LaidCase,
     buses: &'a [Bus],
     stepped: &'a [Stepped],
     first: &'a [u8],

@@ -1,9 +1,9 @@
 // A lawful case, names that are repeated or lacking, and tables that are too short.
 use crate::case_words::{LAWFUL, Names, paper};
-use build::tables::Counts;
+use build::tables::{Counts, LaidCase};
 use case_paper::fault::CaseFault;
 use case_paper::shown::Shown;
-use case_tables::read::{ReadCase, read_case};
+use case_tables::read::read_case;
 use curved::curved::Curved;
 use network::branch::Branch;
 use network::bus::Bus;
@@ -15,7 +15,7 @@ fn refused_at(number: u32, place: usize) -> Option<Shown> {
 }
 
 // The refusal, or none where the case is read.
-fn refusal_of(read: Result<ReadCase, CaseFault>) -> Option<Shown> {
+fn refusal_of(read: Result<LaidCase, CaseFault>) -> Option<Shown> {
     read.err().map(Shown::from)
 }
 
@@ -57,7 +57,7 @@ fn a_case_is_read(rt: HostRuntime) {
     };
     assert_eq!(rt;
         read,
-        Ok(ReadCase {
+        Ok(LaidCase {
             tolerance: 5,
             counts,
         })

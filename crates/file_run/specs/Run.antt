@@ -9,7 +9,7 @@ use Rattle.curved.specs.declared.curved.Curved.{Curved}
 use Rattle.case_paper.specs.Fault.{case_number, case_place}
 use Rattle.case_paper.specs.declared.fault.CaseFault.{CaseFault}
 use Rattle.case_tables.specs.Read.{Tables, CaseRead, Unread, held_case}
-use Rattle.case_tables.specs.declared.read.ReadCase.{ReadCase}
+use Rattle.build.specs.declared.tables.LaidCase.{LaidCase}
 use Rattle.paper_file.specs.Words.{words_in}
 use Rattle.paper_file.specs.Papers.{papers}
 use Rattle.sheet.specs.declared.sheet.Sheet as page
@@ -72,7 +72,7 @@ pub record CaseTaken (p : List ℕ) (later : List (List ℕ)) (answers : List An
   pub room : HasRoom tables
   -- the case that the words say, read into the tables
   pub after : Tables
-  pub read : ReadCase
+  pub read : LaidCase
   pub said : CaseRead p tables after read
   pub start : SizedCase Stepped Curved
   pub case : start.case ≡ held_case read after

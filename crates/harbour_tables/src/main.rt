@@ -30,28 +30,28 @@ fn run(rt: &HostRuntime, tolerance: u32) -> io::Result<()> {
         branches: &BRANCHES,
     };
     println!(rt; "tolerance {tolerance}")?;
-    let counts = match lay(&rows, &mut buses, &mut first, &mut second, &mut branches) {
-        Ok(counts) => counts,
+    let laid = match lay(&rows, &mut buses, &mut first, &mut second, &mut branches) {
+        Ok(laid) => laid,
         Err(refusal) => return refused(rt, refusal),
     };
-    let case = view(&rows, &buses, &first, &second, &branches, counts);
+    let case = view(&rows, &buses, &first, &second, &branches, laid);
     judge_all(rt, &case)?;
     floor_all(rt, &case)?;
     let stations = Stations {
-        tolerance,
+        tolerance: laid.tolerance,
         buses: &buses,
-        nb: counts.buses,
+        nb: laid.counts.buses,
         first: Machines {
             rows: &STEPPED,
             places: &first,
-            count: counts.first,
+            count: laid.counts.first,
         },
         second: Machines {
             rows: &CURVED,
             places: &second,
-            count: counts.second,
+            count: laid.counts.second,
         },
-        nl: counts.branches,
+        nl: laid.counts.branches,
     };
     try_without(rt, stations, &mut branches)
 }

@@ -9,7 +9,7 @@ use Rattle.build.specs.declared.tables.Rows.{Rows}
 use Rattle.build.specs.declared.tables.Sizes.{Sizes}
 use Rattle.case_tables.specs.Read.{CaseRead, held_case, laid_in}
 use Rattle.case_tables.specs.Read as paper
-use Rattle.case_tables.specs.declared.read.ReadCase.{ReadCase}
+use Rattle.build.specs.declared.tables.LaidCase.{LaidCase}
 use Rattle.standing.specs.Panel.{new_panel}
 use Rattle.standing.specs.Run.{Run}
 use Rattle.panel_model.specs.Network.{network, WellSized}
@@ -67,16 +67,16 @@ module _ {M N : Type 0} (𝓜 : Meaning M) (𝓝 : Meaning N) where
   -- what the rows offer is laid in the tables, and is the panel's case
   pub record RowsOpened (o : Rows M N) (before : Tables) (p : Panel M N Idle) : Type 0 where
     pub after : Lent
-    pub counts : Sizes ℕ
-    pub laid : Laid 𝓜 𝓝 o (lent_in before) after counts
-    pub case : case_on p ≡ laid_case o after counts
-    pub tables : OnTables o.first.now o.second.now after counts p
+    pub figures : LaidCase
+    pub laid : Laid 𝓜 𝓝 o (lent_in before) after figures
+    pub case : case_on p ≡ laid_case o after figures
+    pub tables : OnTables o.first.now o.second.now after figures.counts p
     pub places : PlacesTaken before p
 
 -- the words are a lawful case that is read into the tables, and is the panel's case
 pub record PaperOpened (w : List ℕ) (before : paper.Tables) (p : Panel Stepped Curved Idle) : Type 0 where
   pub after : paper.Tables
-  pub read : ReadCase
+  pub read : LaidCase
   pub said : CaseRead w before after read
   pub case : case_on p ≡ held_case read after
   pub tables : OnTables after.stepped after.curved (laid_in after) read.counts p

@@ -82,17 +82,16 @@ impl<'a, M: Machine, N: Machine> Panel<'a, M, N, Idle> {
         ensures exact { MatchResult result (λ p. RowsOpened M.meaning N.meaning rows.now tables.old p) (λ e. Refused M.meaning N.meaning rows.now (room_of (lent_in tables.old)) e) }
         ensures run { IfOk result (λ p. Begins M.meaning N.meaning p) }
     {
-        let counts = lay(
+        let laid = lay(
             rows,
             &mut tables.buses,
             &mut tables.first,
             &mut tables.second,
             &mut tables.branches,
         )?;
-        // The tolerance of a case that is laid fits 32 bits.
         Ok(opened(
-            rows.tolerance.0 as u32,
-            counts,
+            laid.tolerance,
+            laid.counts,
             rows.first,
             rows.second,
             tables,

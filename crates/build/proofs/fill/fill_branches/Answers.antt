@@ -1,24 +1,12 @@
-use Rattle.std.proofs.Common.{length, subst, rules, tests}
-use Rattle.build.specs.declared.rows.BranchRow.{BranchRow}
-use Rattle.build.specs.Raw.{BranchInRange, CrossedLimits}
-use Rattle.build.specs.Offer.{EndsUnknown}
-use Rattle.build.specs.Build.{Joined}
-use Rattle.build.proofs.Filling.{filled_as}
+use Rattle.std.proofs.Common.{refl, arith}
+use Rattle.build.proofs.Making.{branch_made, branch_filled}
 use Rattle.build.proofs.fill.fill_branches.Goals as goal
 
-pub fill-requires-clause-whole : goal.fill-requires-clause-whole
-fill-requires-clause-whole c i x s k =
-    let none = λ (r : BranchRow). BranchInRange r → (CrossedLimits r → ⊥) → (EndsUnknown c.args.buses.now.rows.now r.name.from r.name.to → ⊥) → ⊥ in
-    let no_branch : none x = subst none k.shows (search (rules, tests)) in
-    c.requires.ranges i (record {
-      item = x;
-      stands = s;
-      holds = λ ranged. no_branch ranged
-          (λ crossed. c.requires.uncrossed i (record { item = x; stands = s; holds = crossed }))
-          (λ unknown. c.requires.known i (record { item = x; stands = s; holds = unknown }));
-    })
+pub unwrap-requires : goal.unwrap-requires
+unwrap-requires c = branch_made c.args.rows.now c.loop-i.i _ _ c.branch-row.result c.branch-row.ensures c.loop-i-test.true c.requires.ranges c.requires.uncrossed
 
-pub returns : goal.returns
-returns c =
-    filled_as _ (Joined c.args.buses.now.rows.now) c.args.rows.now c.args.table.now c.fill.new.table (length c.args.rows.now)
-    (λ x y k. search (rules, tests)) c.fill.ensures
+pub loop-i-preserved : goal.loop-i-preserved
+loop-i-preserved c buses found =
+    branch_filled c.args.rows.now c.loop-i.i _ _ c.branch-row.result c.branch-row.ensures c.loop-i-test.true
+    c.args.ends.now _ refl (omega arith)
+    c.args.table.now c.loop-i.table c.unwrap.result c.unwrap.ensures (omega arith) buses found (c.loop-i.invariant buses found)

@@ -1,12 +1,11 @@
-use Rattle.std.proofs.Common.{length, rules, tests}
-use Rattle.build.specs.Raw.{BusInRange, BusOf}
-use Rattle.build.proofs.Filling.{filled_as}
+use Rattle.std.proofs.Common.{arith}
+use Rattle.build.proofs.Making.{bus_made, bus_filled}
 use Rattle.build.proofs.fill.fill_buses.Goals as goal
 
-pub fill-requires-clause-whole : goal.fill-requires-clause-whole
-fill-requires-clause-whole c i x s k =
-    let out : (BusInRange x → ⊥) = search (rules, tests) in
-    c.requires.ranges i (record { item = x; stands = s; holds = out })
+pub unwrap-requires : goal.unwrap-requires
+unwrap-requires c = bus_made c.args.rows.now c.loop-i.i _ c.bus.result c.bus.ensures c.loop-i-test.true c.requires.ranges
 
-pub returns : goal.returns
-returns c = filled_as _ BusOf c.args.rows.now c.args.table.now c.fill.new.table (length c.args.rows.now) (λ x y k. search (rules, tests)) c.fill.ensures
+pub loop-i-preserved : goal.loop-i-preserved
+loop-i-preserved c =
+    bus_filled c.args.rows.now c.loop-i.i _ c.bus.result c.bus.ensures c.loop-i-test.true
+    c.args.table.now c.loop-i.table c.unwrap.result c.unwrap.ensures (omega arith) c.loop-i.invariant

@@ -1,4 +1,4 @@
-use Rattle.std.proofs.Common.{ℤ, pos, nat_abs, sym, ap, ◌∙◌, subst}
+use Rattle.std.proofs.Common.{subst}
 use Rattle.std.proofs.lemmas.Result.{MatchResult-at_ok, MatchResult-at_err, IfOk-at_ok, err_from_is_err_and}
 use Rattle.measure.proofs.Results.{value_told}
 use Rattle.stepped.specs.Piecewise.{stepped_meaning}
@@ -7,7 +7,7 @@ use Rattle.build.specs.Build.{lent, Laid, NotLaid, WellFormed, laid_case}
 use Rattle.case_paper.specs.CaseFault.{LawfulCase}
 use Rattle.case_tables.specs.Read.{tables, laid_in, Reported}
 use Rattle.case_tables.proofs.Ranges.{of_names}
-use Rattle.case_tables.proofs.Reading.{error_told, not_read, counted_case, offered, first_room, second_room, from_zero, case_read}
+use Rattle.case_tables.proofs.Reading.{error_told, not_read, counted_case, offered, first_room, second_room, case_read}
 use Rattle.case_tables.proofs.read.read_case.Goals as goal
 
 pub read_rows-rows-requires : goal.read_rows-rows-requires
@@ -23,15 +23,15 @@ map_err-requires c e is =
     let o = offered c.args.words.now t l c.read_rows-rows.result c.read_rows-rows.ensures c.offer-offer.result c.amount-tolerance.result (record { sfits = c.amount-tolerance.type_inv }) c.amount-tolerance.ensures c.offer-offer.ensures in
     of_names c.args.words.now t l c.offer-offer.result o e (MatchResult-at_err _ (NotLaid stepped_meaning curved_meaning c.offer-offer.result (laid_in t) (lent c.lay.new.buses c.lay.new.first c.lay.new.second c.lay.new.branches)) e is c.lay.ensures.laid).refused
 
-pub returns-in_err-counts : goal.returns-in_err-counts
-returns-in_err-counts c =
+pub returns-in_err-laid : goal.returns-in_err-laid
+returns-in_err-laid c =
     let t = tables c.args.buses.now c.args.stepped.now c.args.first.now c.args.curved.now c.args.second.now c.args.branches.now in
     let l = subst (λ r. LawfulCase r c.args.words.now) c.rows_provided-room.ensures c.in_ok-check_case.ensures.1 in
     let o = offered c.args.words.now t l c.read_rows-rows.result c.read_rows-rows.ensures c.offer-offer.result c.amount-tolerance.result (record { sfits = c.amount-tolerance.type_inv }) c.amount-tolerance.ensures c.offer-offer.ensures in
-    let p = err_from_is_err_and c.from_residual-in_err-counts.result c.from_residual-in_err-counts.ensures.1 in
+    let p = err_from_is_err_and c.from_residual-in_err-laid.result c.from_residual-in_err-laid.ensures.1 in
     rw (p.1, p.2)
-    (not_read c.args.words.now t l c.offer-offer.result o (lent c.lay.new.buses c.lay.new.first c.lay.new.second c.lay.new.branches) c.in_err-counts.field-0.0
-    (error_told c.lay.result c.map_err.result _ _ Reported c.in_err-counts.field-0.0 c.in_err-counts.was c.map_err.ensures.cases c.lay.ensures.laid))
+    (not_read c.args.words.now t l c.offer-offer.result o (lent c.lay.new.buses c.lay.new.first c.lay.new.second c.lay.new.branches) c.in_err-laid.field-0.0
+    (error_told c.lay.result c.map_err.result _ _ Reported c.in_err-laid.field-0.0 c.in_err-laid.was c.map_err.ensures.cases c.lay.ensures.laid))
 
 pub write_rows-requires : goal.write_rows-requires
 write_rows-requires c =
@@ -53,9 +53,7 @@ returns c =
     let l = subst (λ r. LawfulCase r c.args.words.now) c.rows_provided-room.ensures c.in_ok-check_case.ensures.1 in
     let o = offered c.args.words.now t l c.read_rows-rows.result c.read_rows-rows.ensures c.offer-offer.result c.amount-tolerance.result (record { sfits = c.amount-tolerance.type_inv }) c.amount-tolerance.ensures c.offer-offer.ensures in
     let after = tables c.lay.new.buses c.write_rows.new.table c.lay.new.first c.write_rows-2.new.table c.lay.new.second c.lay.new.branches in
-    let is = value_told c.lay.result c.map_err.result Reported c.in_ok-counts.counts c.in_ok-counts.was c.map_err.ensures.cases in
-    let laid = MatchResult-at_ok (Laid stepped_meaning curved_meaning c.offer-offer.result (laid_in t) (laid_in after)) _ c.in_ok-counts.counts is c.lay.ensures.laid in
+    let is = value_told c.lay.result c.map_err.result Reported c.in_ok-laid.laid c.in_ok-laid.was c.map_err.ensures.cases in
+    let laid = MatchResult-at_ok (Laid stepped_meaning curved_meaning c.offer-offer.result (laid_in t) (laid_in after)) _ c.in_ok-laid.laid is c.lay.ensures.laid in
     let formed = IfOk-at_ok (λ n. WellFormed stepped_meaning curved_meaning (laid_case c.offer-offer.result (laid_in after) n)) is c.lay.ensures.formed in
-    let allows = (c.offer-offer.ensures l.form.records (c.read_rows-rows.ensures l.form)).allows in
-    let whole = ap (λ (x : ℤ). pos (nat_abs x)) (sym allows) ∙ from_zero c.offer-offer.result.tolerance.0 laid.accepted.sizes.tolerance.0 in
-    case_read c.args.words.now t l c.offer-offer.result o after _ laid whole c.write_rows.ensures c.write_rows-2.ensures formed
+    case_read c.args.words.now t l c.offer-offer.result o after c.in_ok-laid.laid laid c.write_rows.ensures c.write_rows-2.ensures formed

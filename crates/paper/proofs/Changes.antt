@@ -1,11 +1,15 @@
 -- The places of a change paper say what its words say.
-use Rattle.std.proofs.Common.{◌≡◌, ℕ, zero, suc, Bool, true, false, List, [], ◌∷◌, get_or, ℤ, pos, negsuc, ◌≤ℤ◌, ◌<◌, sym, refl, ap, ◌∙◌, subst, arith}
+use Rattle.std.proofs.Common.{◌≡◌, ℕ, zero, suc, Bool, true, false, None, List, [], ◌∷◌, length, take, get_or, ℤ, pos, negsuc, ◌≤ℤ◌, ◌<◌, sym, refl, ap, ◌∙◌, subst, arith}
 use Rattle.std.proofs.lemmas.Int.{ints}
 use Rattle.std.proofs.lemmas.Bool.{true≢false}
+use Rattle.std.proofs.lemmas.List.{take_all}
 use Rattle.word.specs.Word.{payload_of, amount_of, amount_word}
-use Rattle.word.specs.Slot.{Fits, Matches}
+use Rattle.word.specs.Fault.{RefusedWord}
+use Rattle.word.specs.Slot.{Fits, Misfits, Matches, Possible}
 use Rattle.word.specs.declared.slot.Slot.{Slot}
-use Rattle.word.specs.declared.slot.Slot.TheVariants.{Bus, Branch}
+use Rattle.word.specs.declared.slot.Slot.TheVariants.{Head, Bus, Branch, End}
+use Rattle.word.specs.declared.fault.WordFault.{WordFault}
+use Rattle.word.proofs.Slots.{matches_more, refused_misfit}
 use Rattle.word.proofs.Words.{amount_same}
 use Rattle.word.proofs.Fillings.{head_word, head_fits, end_word-is, end_fits, amount_fits}
 use Rattle.paper.specs.Range.{power_slot, mark_slot}
@@ -26,6 +30,29 @@ change_read head name amount (a ∷ b ∷ c ∷ d ∷ []) m =
     let ed = end_word-is d m.1.1.1.0 in
     (m.1.0, m.1.1.0, λ i. ea i ∷ b ∷ c ∷ ed i ∷ [])
 change_read head name amount (a ∷ b ∷ c ∷ d ∷ x ∷ w) m = absurd m.1.1.1.1
+
+-- four words, one after another: those that fit their places, and the first that does not
+module _ (head : ℕ) (name amount : Slot) (w : List ℕ) (four : length w ≡ 4) where
+  abbrev Front : ℕ → Type 0
+  Front i = Matches (take i (change_slots head name amount)) (take i w)
+
+  pub front_head : Fits (Head head) (get_or w 0 0) → Front 1
+  front_head f = matches_more (change_slots head name amount) w 0 End 0 tt (omega arith) (omega arith) f
+
+  pub front_name : Fits (Head head) (get_or w 0 0) → Fits name (get_or w 1 0) → Front 2
+  front_name f n = matches_more (change_slots head name amount) w 1 End 0 (front_head f) (omega arith) (omega arith) n
+
+  pub front_amount : Fits (Head head) (get_or w 0 0) → Fits name (get_or w 1 0) → Fits amount (get_or w 2 0) → Front 3
+  front_amount f n a = matches_more (change_slots head name amount) w 2 End 0 (front_name f n) (omega arith) (omega arith) a
+
+  pub four_fit : Fits (Head head) (get_or w 0 0) → Fits name (get_or w 1 0) → Fits amount (get_or w 2 0) → Fits End (get_or w 3 0) → Matches (change_slots head name amount) w
+  four_fit f n a e =
+      let front : Front 4 = matches_more (change_slots head name amount) w 3 End 0 (front_amount f n a) (omega arith) (omega arith) e in
+      subst (Matches (change_slots head name amount)) (take_all 4 w (omega arith)) front
+
+  pub word_refused : Possible (change_slots head name amount) → (i : ℕ) → i < 4 → Front i → (f : WordFault) → Misfits (get_or (change_slots head name amount) i End) (get_or w i 0) f.refusal × (f.place ≡ i) × (f.first ≡ None) → RefusedWord (Matches (change_slots head name amount)) w f
+  word_refused v i h m f (misfit, place, first) =
+      (rw place (refused_misfit (change_slots head name amount) w i v m End (omega arith) (omega arith) f.refusal misfit), first)
 
 change_fits : (head : ℕ) (name amount : Slot) (b c : ℕ) → head < 268435456 → Fits name b → Fits amount c → Matches (change_slots head name amount) (change_words head b c)
 change_fits head name amount b c h n a = (head_fits head h, (n, (a, (end_fits, tt))))

@@ -1,5 +1,5 @@
 // Change papers: exactly a head, a name, an amount, an end.
-ghost use Rattle.std.specs.Prelude.{◌≡◌, MatchResult};
+ghost use Rattle.std.specs.Prelude.{◌≡◌, ◌≢◌, length, MatchResult};
 ghost use Rattle.word.specs.Fault.{RefusedWord};
 ghost use Rattle.word.specs.Head.{head_number};
 ghost use Rattle.word.specs.Slot.{Fits, Matches, Possible};
@@ -29,6 +29,24 @@ pub struct MarkChange {
     pub in_service: bool,
 }
 
+// The fault of words that are not four.
+fn length_fault(words: &[u32], head: Head, name: Slot, amount: Slot) -> WordFault
+    requires possible { Possible (change_slots (head_number head) name amount) }
+    requires other { length words.now ≢ 4 }
+    ensures { RefusedWord (Matches (change_slots (head_number head) name amount)) words.now result }
+{
+    let runs = [
+        Run::one(Slot::Head(head.number())),
+        Run::one(name),
+        Run::one(amount),
+        Run::one(Slot::End),
+    ];
+    match admit_all(words, &runs) {
+        Err(fault) => fault,
+        Ok(()) => unreachable(),
+    }
+}
+
 // The words are a head, a name, an amount and an end; returned are the words of the name and the amount.
 fn admit_change(
     words: &[u32],
@@ -39,19 +57,14 @@ fn admit_change(
     requires { Possible (change_slots (head_number head) name amount) }
     ensures { MatchResult result (λ p. Fits name p.0 × Fits amount p.1 × (words.now ≡ change_words (head_number head) p.0 p.1)) (λ f. RefusedWord (Matches (change_slots (head_number head) name amount)) words.now f) }
 {
-    admit_all(
-        words,
-        &[
-            Run::one(Slot::Head(head.number())),
-            Run::one(name),
-            Run::one(amount),
-            Run::one(Slot::End),
-        ],
-    )?;
-    let [_head, name, amount, _end] = words else {
-        return unreachable();
+    let [head_word, name_word, amount_word, end_word] = words else {
+        return Err(length_fault(words, head, name, amount));
     };
-    Ok((*name, *amount))
+    Slot::Head(head.number()).admit(0, *head_word)?;
+    name.admit(1, *name_word)?;
+    amount.admit(2, *amount_word)?;
+    Slot::End.admit(3, *end_word)?;
+    Ok((*name_word, *amount_word))
 }
 
 #[tactic(auto, using(crate::proofs::Layouts::possible, crate::proofs::Layouts::refused, crate::proofs::Changes::demand_layout))]

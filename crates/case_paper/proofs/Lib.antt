@@ -6,3 +6,4 @@ pub mod Checks
 pub mod Outcomes
 pub mod Progress
 pub mod Orders
+mod OpenWords

@@ -1,14 +1,15 @@
 -- When the words of a case are refused, and when they are a lawful case.
-use Rattle.std.specs.Prelude.{◌≡◌, ℕ, ◌+◌, ◌<◌, ◌≤◌, cond, ◌⊎◌, List, [], ◌∷◌, ◌++◌, length, take, None, Some, Option, ◌==◌, slice_index}
+use Rattle.std.specs.Prelude.{◌≡◌, ℕ, ◌+◌, ◌<◌, ◌≤◌, cond, ◌⊎◌, List, [], ◌∷◌, ◌++◌, length, take, None, Some, Option, ◌==◌, ◌≢◌, slice_index}
 use Rattle.std.specs.List.{flat_map, AllByRecursion}
 use Rattle.word.specs.Word.{kind_of, payload_of}
 use Rattle.word.specs.Form.{Refused}
 use Rattle.word.specs.Slot.{Matches}
 use Rattle.word.specs.declared.kind.Kind.TheVariants as kind
+use Rattle.word.specs.declared.fault.WordFault.{WordFault}
 use Rattle.word.specs.declared.fault.WordRefusal.TheVariants as refusal
 use Rattle.case_paper.specs.Case.{head_slots, rank, FirstWord, amounts_of, Record, record_words, Formed, CaseForm}
 use Rattle.case_paper.specs.Order.{InOrder}
-use Rattle.case_paper.specs.Fault.{record_number}
+use Rattle.case_paper.specs.Fault.{record_number, record_open_word}
 use Rattle.case_paper.specs.declared.sort.Sort.{Sort}
 use Rattle.case_paper.specs.declared.fault.RecordFault.{RecordFault}
 use Rattle.case_paper.specs.declared.fault.RecordFault.TheVariants.{Word, Order, Count}
@@ -116,3 +117,9 @@ RefusedRead rows w (fault.Lacks row) = ⊥
 pub record CaseExact : Type 0 where
   pub accepted : (rows w : List ℕ) (f : RecordFault) → LawfulCase rows w → RefusedCase rows w f → ⊥
   pub once : (rows w : List ℕ) (f g : RecordFault) → RefusedCase rows w f → RefusedCase rows w g → f ≡ g
+
+-- ---- the first word of the open record
+-- no record's first word is 0: where 0 stands for it, a word is refused and no record is open
+pub record OpenWordTold : Type 0 where
+  pub first : (q : Sort) (x : ℕ) → FirstWord q x → x ≢ 0
+  pub none : (rows w : List ℕ) (f : RecordFault) → RefusedCase rows w f → record_open_word f ≡ 0 → (g : WordFault) × (f ≡ Word g) × (g.first ≡ None)

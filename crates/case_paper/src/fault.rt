@@ -2,7 +2,7 @@
 ghost use Rattle.std.specs.Prelude.{◌≡◌};
 ghost use Rattle.case_paper.specs.declared.fault.RecordFault.TheVariants.{Word};
 ghost use Rattle.case_paper.specs.declared.fault.CaseFault.TheVariants.{Record};
-ghost use Rattle.case_paper.specs.Fault.{record_number, record_place, case_number, case_place};
+ghost use Rattle.case_paper.specs.Fault.{record_number, record_place, record_open_word, case_number, case_place, case_open_word};
 
 use word::fault::WordFault;
 
@@ -61,6 +61,16 @@ impl RecordFault {
             RecordFault::Order { place, .. } | RecordFault::Count { place, .. } => place,
         }
     }
+
+    // The first word of the open record, 0 where none is open.
+    pub fn open_word(self) -> u32
+        ensures { result ≡ record_open_word self }
+    {
+        match self {
+            RecordFault::Word(f) => f.first.unwrap_or(0),
+            RecordFault::Order { first, .. } | RecordFault::Count { first, .. } => first,
+        }
+    }
 }
 
 impl CaseFault {
@@ -82,6 +92,16 @@ impl CaseFault {
         match self {
             CaseFault::Record(f) => f.place(),
             CaseFault::Repeats(row) | CaseFault::Lacks(row) => row,
+        }
+    }
+
+    // The first word of the open record, 0 where none is open.
+    pub fn open_word(self) -> u32
+        ensures { result ≡ case_open_word self }
+    {
+        match self {
+            CaseFault::Record(f) => f.open_word(),
+            CaseFault::Repeats(_) | CaseFault::Lacks(_) => 0,
         }
     }
 }

@@ -5,3 +5,8 @@ mod Walking
 mod Ranges
 mod Reading
 mod Exact
+mod Amounts
+mod StepRows
+mod OtherRows
+mod Sorting
+mod Telling

@@ -30,11 +30,11 @@ signed_positive p low =
     ]
 
 -- an amount from 0 on is its payload
-amount_positive : (x : ℕ) → pos 0 ≤ℤ amount_of x → amount_of x ≡ pos (payload_of x)
+pub amount_positive : (x : ℕ) → pos 0 ≤ℤ amount_of x → amount_of x ≡ pos (payload_of x)
 unfolding amount_of
 amount_positive x low = signed_positive (payload_of x) low
 
-payload_between : (x least most : ℕ) → pos least ≤ℤ amount_of x → amount_of x ≤ℤ pos most → (least ≤ payload_of x) × (payload_of x ≤ most)
+pub payload_between : (x least most : ℕ) → pos least ≤ℤ amount_of x → amount_of x ≤ℤ pos most → (least ≤ payload_of x) × (payload_of x ≤ most)
 payload_between x least most low high =
     let e = amount_positive x (omega (arith, ints)) in
     let up : pos (payload_of x) ≤ℤ pos most = subst (λ (z : ℤ). z ≤ℤ pos most) e high in

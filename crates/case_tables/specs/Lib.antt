@@ -1,3 +1,4 @@
 pub mod Rows
 pub mod Held
 pub mod Read
+pub mod Told

@@ -1,7 +1,8 @@
 // A case read into lent tables.
-ghost use Rattle.std.specs.Prelude.{◌≡◌, ◌≤◌, length};
+ghost use Rattle.std.specs.Prelude.{◌≡◌, ◌≤◌, length, IfOk};
 ghost use Rattle.case_paper.specs.CaseFault.{LawfulCase};
 ghost use Rattle.case_tables.specs.Read.{tables, rows_provided, Written, Outcome, OfNames, Reported};
+ghost use Rattle.case_tables.specs.Told.{ReadTold};
 
 use crate::walk::read_rows;
 use build::build::lay;
@@ -67,7 +68,8 @@ pub fn read_case(
     second: &mut [u8],
     branches: &mut [Branch],
 ) -> Result<LaidCase, CaseFault>
-    ensures { Outcome words.now (tables buses.old stepped.old first.old curved.old second.old branches.old) (tables buses.new stepped.new first.new curved.new second.new branches.new) result }
+    ensures outcome { Outcome words.now (tables buses.old stepped.old first.old curved.old second.old branches.old) (tables buses.new stepped.new first.new curved.new second.new branches.new) result }
+    ensures told { IfOk result (ReadTold words.now (tables buses.old stepped.old first.old curved.old second.old branches.old) (tables buses.new stepped.new first.new curved.new second.new branches.new)) }
 {
     let room = rows_provided(buses, stepped, first, curved, second, branches);
     check_case(words, &room)?;

@@ -8,6 +8,7 @@ use Rattle.case_paper.specs.CaseFault.{LawfulCase}
 use Rattle.case_tables.specs.Read.{tables, laid_in, Reported}
 use Rattle.case_tables.proofs.Ranges.{of_names}
 use Rattle.case_tables.proofs.Reading.{error_told, not_read, counted_case, offered, first_room, second_room, case_read}
+use Rattle.case_tables.proofs.Telling.{read_told}
 use Rattle.case_tables.proofs.read.read_case.Goals as goal
 
 pub read_rows-rows-requires : goal.read_rows-rows-requires
@@ -23,8 +24,8 @@ map_err-requires c e is =
     let o = offered c.args.words.now t l c.read_rows-rows.result c.read_rows-rows.ensures c.offer-offer.result c.amount-tolerance.result (record { sfits = c.amount-tolerance.type_inv }) c.amount-tolerance.ensures c.offer-offer.ensures in
     of_names c.args.words.now t l c.offer-offer.result o e (MatchResult-at_err _ (NotLaid stepped_meaning curved_meaning c.offer-offer.result (laid_in t) (lent c.lay.new.buses c.lay.new.first c.lay.new.second c.lay.new.branches)) e is c.lay.ensures.laid).refused
 
-pub returns-in_err-laid : goal.returns-in_err-laid
-returns-in_err-laid c =
+pub returns-in_err-laid-clause-outcome : goal.returns-in_err-laid-clause-outcome
+returns-in_err-laid-clause-outcome c =
     let t = tables c.args.buses.now c.args.stepped.now c.args.first.now c.args.curved.now c.args.second.now c.args.branches.now in
     let l = subst (λ r. LawfulCase r c.args.words.now) c.rows_provided-room.ensures c.in_ok-check_case.ensures.1 in
     let o = offered c.args.words.now t l c.read_rows-rows.result c.read_rows-rows.ensures c.offer-offer.result c.amount-tolerance.result (record { sfits = c.amount-tolerance.type_inv }) c.amount-tolerance.ensures c.offer-offer.ensures in
@@ -47,8 +48,8 @@ write_rows-requires-2 c =
     let o = offered c.args.words.now t l c.read_rows-rows.result c.read_rows-rows.ensures c.offer-offer.result c.amount-tolerance.result (record { sfits = c.amount-tolerance.type_inv }) c.amount-tolerance.ensures c.offer-offer.ensures in
     second_room c.args.words.now t l c.offer-offer.result o
 
-pub returns : goal.returns
-returns c =
+pub returns-clause-outcome : goal.returns-clause-outcome
+returns-clause-outcome c =
     let t = tables c.args.buses.now c.args.stepped.now c.args.first.now c.args.curved.now c.args.second.now c.args.branches.now in
     let l = subst (λ r. LawfulCase r c.args.words.now) c.rows_provided-room.ensures c.in_ok-check_case.ensures.1 in
     let o = offered c.args.words.now t l c.read_rows-rows.result c.read_rows-rows.ensures c.offer-offer.result c.amount-tolerance.result (record { sfits = c.amount-tolerance.type_inv }) c.amount-tolerance.ensures c.offer-offer.ensures in
@@ -57,3 +58,6 @@ returns c =
     let laid = MatchResult-at_ok (Laid stepped_meaning curved_meaning c.offer-offer.result (laid_in t) (laid_in after)) _ c.in_ok-laid.laid is c.lay.ensures.laid in
     let formed = IfOk-at_ok (λ n. WellFormed stepped_meaning curved_meaning (laid_case c.offer-offer.result (laid_in after) n)) is c.lay.ensures.formed in
     case_read c.args.words.now t l c.offer-offer.result o after c.in_ok-laid.laid laid c.write_rows.ensures c.write_rows-2.ensures formed
+
+pub returns-clause-told : goal.returns-clause-told
+returns-clause-told c = read_told _ _ _ _ (returns-clause-outcome c)

@@ -24,7 +24,8 @@ use Rattle.panel_model.specs.Network.{network, in_place}
 use Rattle.panel_model.specs.Says.{SaysDemand, SaysMark}
 use Rattle.panel_model.proofs.Decided.{SaysSome, said_demand, said_mark}
 use Rattle.panel_model.proofs.Faults.{says_none_demand, says_none_mark}
-use Rattle.panel_model.proofs.Made.{NamedBus, demand_taken, demand_lacking, mark_taken, mark_lacking}
+use Rattle.panel_model.specs.Laws.{NamedBus}
+use Rattle.panel_model.proofs.Made.{demand_taken, demand_lacking, mark_taken, mark_lacking}
 use Rattle.panel.specs.Calls.{Counted, CountedDeclined, ChangeTaken, ChangeOffered, DemandOffered, MarkOffered}
 use Rattle.panel.specs.Standing.{ChangeStep}
 use Rattle.panel.specs.declared.refusal.PaperRefusal.TheVariants.{Words, Case}

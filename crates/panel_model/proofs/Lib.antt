@@ -7,3 +7,4 @@ pub mod Offers
 pub mod Faults
 pub mod Made
 pub mod Decided
+pub mod RowsTold

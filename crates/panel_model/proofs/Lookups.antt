@@ -60,6 +60,28 @@ module _ {X : Type 0} (P : X → Type 0) (test : X → Bool) (yes : (x : X) → 
         | inr e ↦ cond-false (test x) (Some 0) (option_map suc (row_where test xs)) e ∙ found_later x xs o e l (row_where_is xs)
       ]
 
+  -- the row that is looked up is the lowest that passes
+  none_passes : (x : X) (xs : List X) → test x ≡ false → ((i : ℕ) → HoldsAt (λ r. P r.item) xs i → ⊥) → (i : ℕ) → HoldsAt (λ r. P r.item) (x ∷ xs) i → ⊥
+  none_passes x xs f n zero h = false≢true (sym f ∙ yes x (head_held x xs h))
+  none_passes x xs f n (suc i) h = n i (earlier_holds x xs i h)
+
+  none_lower : (x : X) (xs : List X) (i : ℕ) → test x ≡ false → ((j : ℕ) → j < i → HoldsAt (λ r. P r.item) xs j → ⊥) → (j : ℕ) → j < suc i → HoldsAt (λ r. P r.item) (x ∷ xs) j → ⊥
+  none_lower x xs i f n zero l h = false≢true (sym f ∙ yes x (head_held x xs h))
+  none_lower x xs i f n (suc j) l h = n j (omega arith) (earlier_holds x xs j h)
+
+  lowest_later : (x : X) (xs : List X) (o : Option ℕ) → test x ≡ false → Lowest (HoldsAt (λ r. P r.item) xs) o → Lowest (HoldsAt (λ r. P r.item) (x ∷ xs)) (option_map suc o)
+  lowest_later x xs None f l = none_passes x xs f l
+  lowest_later x xs (Some i) f l = (later_holds x xs i l.0, none_lower x xs i f l.1)
+
+  pub row_where-lowest : (xs : List X) → Lowest (HoldsAt (λ r. P r.item) xs) (row_where test xs)
+  unfolding row_where
+  row_where-lowest [] = none_held
+  row_where-lowest (x ∷ xs) =
+      elim (cases_Bool (test x)) [
+        | inl e ↦ subst (Lowest (HoldsAt (λ r. P r.item) (x ∷ xs))) (sym (cond-true (test x) (Some 0) (option_map suc (row_where test xs)) e)) (head_holds x xs (no x e), λ j l h. absurd (omega arith))
+        | inr e ↦ subst (Lowest (HoldsAt (λ r. P r.item) (x ∷ xs))) (sym (cond-false (test x) (Some 0) (option_map suc (row_where test xs)) e)) (lowest_later x xs (row_where test xs) e (row_where-lowest xs))
+      ]
+
 pub bus_row_is : (name : ℕ) (buses : List Bus) (o : Option ℕ) → Lowest (HoldsAt (HasName ◌≡◌ (λ (b : Bus). b.name) name) buses) o → row_where (is_bus name) buses ≡ o
 bus_row_is name = row_where_is (λ (b : Bus). b.name ≡ name) (is_bus name) (λ b e. eq-eqb b.name name e) (λ b e. eqb-true b.name name e)
 
@@ -80,6 +102,12 @@ branch_same a b e =
 
 pub branch_row_is : (name : BranchName) (branches : List Branch) (o : Option ℕ) → Lowest (HoldsAt (HasName ◌≡◌ (λ (b : Branch). b.name) name) branches) o → row_where (is_branch name) branches ≡ o
 branch_row_is name = row_where_is (λ (b : Branch). b.name ≡ name) (is_branch name) (λ b e. same_branch b.name name e) (λ b e. branch_same b.name name e)
+
+pub bus_lowest : (name : ℕ) (buses : List Bus) → Lowest (HoldsAt (HasName ◌≡◌ (λ (b : Bus). b.name) name) buses) (row_where (is_bus name) buses)
+bus_lowest name = row_where-lowest (λ (b : Bus). b.name ≡ name) (is_bus name) (λ b e. eq-eqb b.name name e) (λ b e. eqb-true b.name name e)
+
+pub branch_lowest : (name : BranchName) (branches : List Branch) → Lowest (HoldsAt (HasName ◌≡◌ (λ (b : Branch). b.name) name) branches) (row_where (is_branch name) branches)
+branch_lowest name = row_where-lowest (λ (b : Branch). b.name ≡ name) (is_branch name) (λ b e. same_branch b.name name e) (λ b e. branch_same b.name name e)
 
 -- ---- the row that is changed
 

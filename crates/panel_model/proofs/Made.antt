@@ -2,22 +2,17 @@
 use Rattle.std.proofs.Common.{◌≡◌, ℕ, Bool, Some, None, Option, ap}
 use Rattle.std.specs.Option.{option_map}
 use Rattle.measure.specs.Range.{Within}
-use Rattle.measure.specs.Rows.{HoldsAt, Lowest}
+use Rattle.measure.specs.Rows.{Lowest}
 use Rattle.measure.specs.declared.Watts.{Watts}
-use Rattle.names.specs.Names.{HasName}
 use Rattle.names.specs.declared.branch.BranchName.{BranchName}
 use Rattle.machine.specs.Meaning.{Meaning}
-use Rattle.network.specs.declared.bus.Bus.{Bus}
 use Rattle.network.specs.Model.{Case}
 use Rattle.pricing.specs.Outage.{marked, NamedRow}
 use Rattle.panel_model.specs.Change.{changed, demanding, with_row, with_buses, with_branches}
 use Rattle.panel_model.specs.Change.Change.{demand, mark}
+use Rattle.panel_model.specs.Laws.{NamedBus}
 use Rattle.panel_model.specs.Network.{SizedCase, in_place, network}
 use Rattle.panel_model.proofs.Lookups.{bus_row_is, branch_row_is}
-
--- the bus in row i of the case has that name
-abbrev pub NamedBus : {M N : Type 0} → Case M N → ℕ → ℕ → Type 0
-NamedBus c name = HoldsAt (HasName ◌≡◌ (λ (b : Bus). b.name) name) c.buses
 
 module _ {M N : Type 0} (c : Case M N) where
   pub demand_made : (name : ℕ) (watts : Watts) (ok : Within 100000000 watts.0) (o : Option ℕ) → Lowest (NamedBus c name) o → changed c (demand name watts ok) ≡ option_map (λ i. with_buses c (with_row (demanding watts ok) c.buses i)) o

@@ -3,3 +3,4 @@ pub mod Kept
 pub mod PriceLists
 pub mod RowLimits
 pub mod Outages
+pub mod RowsTold

@@ -4,5 +4,6 @@
 mod charge;
 pub mod floor;
 mod lawful;
+pub mod laws;
 pub mod outage;
 mod residue;

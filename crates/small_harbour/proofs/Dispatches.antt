@@ -2,7 +2,7 @@
 use Rattle.std.proofs.Common.{◌≡◌, ℕ, ◌<◌, true, T, ℤ, pos, negsuc, ◌*ℤ◌, Err, refl, ap, ◌∙◌, arith}
 use lib.Signed.{le_z}
 use Rattle.measure.specs.Fraction.{Fraction, ◌+ᶠ◌, ◌-ᶠ◌, ◌·ᶠ◌, Between}
-use Rattle.measure.specs.Rows.{numbered, total, totalᶠ, All}
+use Rattle.measure.specs.Rows.{numbered, total, totalᶠ, All, Stands}
 use Rattle.stepped.specs.Piecewise.{stepped_meaning}
 use Rattle.curved.specs.Quadratic.{curved_meaning}
 use Rattle.network.specs.Model.{WholeDispatch, in_fractions, angle, flow, leaving, arriving, injection, mismatch, Meets, counted}
@@ -10,10 +10,10 @@ use Rattle.measure.proofs.Sums.{holds_below}
 use Rattle.network.specs.declared.refusal.Refusal.{Refusal}
 use Rattle.network.specs.declared.refusal.Refusal.TheVariants.{OutOfRange, Crossed, Size, Repeated, UnknownBus, NotInCase, NotAllowed, Unbalanced, Overloaded, Overstretched, Unrated, Weight, Residue}
 use Rattle.network.specs.Refusals.{number_of}
-use Rattle.network.specs.Judged.{AnglesKept, PowersAllowed, Balanced, RatingsKept, Refused, Judged}
+use Rattle.network.specs.Judged.{AnglesKept, PowersAllowed, InBalance, WithinRating, Balanced, RatingsKept, Refused, Declined, Judged}
 use Rattle.network.proofs.Pinned.{judged_overloaded}
 use Rattle.small_harbour.specs.Example.{Answer}
-use Rattle.small_harbour.specs.Harbour.{harbour, dispatch}
+use Rattle.small_harbour.specs.Harbour.{west, line, harbour, dispatch}
 
 -- a fraction between two whole numbers, by computing both comparisons
 inside : {a b : ℤ} {x : Fraction} → T (le_z (a *ℤ pos x.den) (x.num *ℤ pos 1)) → T (le_z (x.num *ℤ pos 1) (b *ℤ pos x.den)) → Between a b x
@@ -79,9 +79,22 @@ pub uneven-powers : PowersAllowed stepped_meaning curved_meaning (harbour 0 true
 unfolding All numbered
 uneven-powers = ((inside tt tt, tt), (inside tt tt, tt))
 
+uneven-west : InBalance (harbour 0 true) uneven (record { item = west; row = 0 }) → ⊥
+unfolding numbered ◌+ᶠ◌ ◌-ᶠ◌ ◌·ᶠ◌ totalᶠ angle flow leaving arriving injection mismatch
+uneven-west b = b.high.cross.le
+
 pub uneven-unbalanced : Balanced (harbour 0 true) uneven → ⊥
-unfolding All numbered ◌+ᶠ◌ ◌-ᶠ◌ ◌·ᶠ◌ totalᶠ angle flow leaving arriving injection mismatch
-uneven-unbalanced b = b.0.high.cross.le
+unfolding All numbered
+uneven-unbalanced b = uneven-west b.0
+
+-- both buses are out of balance, and the refusal may name either
+pub uneven-declined : Declined stepped_meaning curved_meaning (harbour 0 true) uneven (Unbalanced 0)
+unfolding Stands
+uneven-declined =
+    record {
+      refused = (uneven-angles, uneven-powers, record { item = west; stands = refl; holds = uneven-west });
+      misses = λ m. uneven-unbalanced m.balance;
+    }
 
 -- ---- one over the rating of the branch
 abbrev heavy : WholeDispatch
@@ -98,9 +111,21 @@ pub heavy-balanced : Balanced (harbour 0 true) heavy
 unfolding All numbered ◌+ᶠ◌ ◌-ᶠ◌ ◌·ᶠ◌ totalᶠ angle flow leaving arriving injection mismatch
 heavy-balanced = (inside tt tt, (inside tt tt, tt))
 
+heavy-line : WithinRating (harbour 0 true) heavy (line true) → ⊥
+unfolding ◌+ᶠ◌ ◌-ᶠ◌ ◌·ᶠ◌ angle flow
+heavy-line w = w.high.cross.le
+
 pub heavy-overloads : RatingsKept (harbour 0 true) heavy → ⊥
-unfolding All ◌+ᶠ◌ ◌-ᶠ◌ ◌·ᶠ◌ angle flow
-heavy-overloads r = (r.0 tt (record { lt = tt })).high.cross.le
+unfolding All
+heavy-overloads r = heavy-line (r.0 tt (record { lt = tt }))
+
+pub heavy-declined : Declined stepped_meaning curved_meaning (harbour 0 true) heavy (Overloaded 0)
+unfolding Stands
+heavy-declined =
+    record {
+      refused = (heavy-angles, heavy-powers, heavy-balanced, record { item = line true; stands = refl; holds = (tt, record { lt = tt }, heavy-line) });
+      misses = λ m. heavy-overloads m.ratings;
+    }
 
 -- the one branch is the one that is over
 pub heavy-row : (r : Answer) → Judged stepped_meaning curved_meaning (harbour 0 true) heavy r → r ≡ Err (Overloaded 0)

@@ -1,4 +1,4 @@
--- What the small harbour gives, whatever judge and floor answer.
+-- What judging and the floor answer on the small harbour: what they can answer, and nothing else.
 use Rattle.std.specs.Prelude.{◌≡◌, ℕ, true, ℤ, pos, negsuc, Ok, Err, Result}
 use Rattle.measure.specs.declared.Grains.{Grains}
 use Rattle.stepped.specs.Piecewise.{stepped_meaning}
@@ -23,13 +23,22 @@ pub record RefusedBy (n : ℕ) (r : Answer) : Type 0 where
   pub is : r ≡ Err refusal
   pub number : number_of refusal ≡ n
 
+-- what can be answered: every answer that is allowed is as P says, and there is one
+pub record Answered (Allowed P : Answer → Type 0) : Type 0 where
+  pub only : (r : Answer) → Allowed r → P r
+  pub possible : (r : Answer) × P r × Allowed r
+
 -- what judging the powers p₁ and p₂ and the angle θ can answer, at the tolerance E
 abbrev pub Judges : ℕ → ℤ → ℤ → ℤ → (Answer → Type 0) → Type 0
-Judges E p₁ p₂ θ P = (r : Answer) → Judged stepped_meaning curved_meaning (harbour E true) (dispatch p₁ p₂ θ) r → P r
+Judges E p₁ p₂ θ = Answered (Judged stepped_meaning curved_meaning (harbour E true) (dispatch p₁ p₂ θ))
 
 -- what the floor of the prices l₁, l₂, μ and ν can be, at the tolerance E, with the branch in service
 abbrev pub Floors : ℕ → ℤ → ℤ → ℤ → ℤ → (Answer → Type 0) → Type 0
-Floors E l₁ l₂ μ ν P = (r : Answer) → Floored stepped_meaning curved_meaning (harbour E true) (prices l₁ l₂ μ ν) r → P r
+Floors E l₁ l₂ μ ν = Answered (Floored stepped_meaning curved_meaning (harbour E true) (prices l₁ l₂ μ ν))
+
+-- what it can be with the branch out of service
+abbrev pub FloorsWithout : ℕ → ℤ → ℤ → ℤ → ℤ → (Answer → Type 0) → Type 0
+FloorsWithout E l₁ l₂ μ ν = Answered (FlooredWithout stepped_meaning curved_meaning (harbour E true) (prices l₁ l₂ μ ν) line_name)
 
 pub record Example : Type 0 where
   pub even_share : Judges 0 (pos 600) (pos 400) (negsuc 59) (λ r. r ≡ grains (pos 24080))
@@ -41,4 +50,4 @@ pub record Example : Type 0 where
   pub even_prices_tolerated : Floors 1 (pos 30) (pos 30) (pos 0) (pos 0) (λ r. r ≡ grains (pos 23940))
   pub uneven_prices : Floors 0 (pos 30) (pos 31) (pos 0) (pos 0) (λ r. r ≡ grains (negsuc 31975499))
   pub priced_angle : Floors 0 (pos 30) (pos 30) (pos 0) (pos 5) (λ r. r ≡ grains (negsuc 47975999))
-  pub branch_out : (r : Answer) → FlooredWithout stepped_meaning curved_meaning (harbour 0 true) (prices (pos 20) (pos 31) (pos 0) (pos 0)) line_name r → r ≡ grains (pos 30500)
+  pub branch_out : FloorsWithout 0 (pos 20) (pos 31) (pos 0) (pos 0) (λ r. r ≡ grains (pos 30500))

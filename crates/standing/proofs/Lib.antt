@@ -8,3 +8,4 @@ pub mod Pinning
 pub mod Refusals
 pub mod Reoffered
 pub mod Runs
+pub mod ExampleRuns

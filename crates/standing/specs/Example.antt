@@ -6,8 +6,9 @@ use Rattle.standing.specs.Call.{History}
 use Rattle.standing.specs.Call.Call.{man, offer, change, ask, hand_over, stand_down}
 use Rattle.standing.specs.Call.Offer.{dispatch, prices}
 use Rattle.standing.specs.Call.Question.{trial}
-use Rattle.standing.specs.Panel.{Sheet}
+use Rattle.standing.specs.Panel.{Sheet, State}
 use Rattle.standing.specs.Run.{Run}
+use Rattle.standing.specs.Theorems.{SamePanel}
 
 pub record Demand : Type 0 where
   pub bus : ℕ
@@ -49,6 +50,13 @@ sheets =
     record { attendant = 12; counts = record { held = 1; passed = 0; declined = 1; changes = 0 }; cost = Some (pos 8); floor = None } ∷
     (record { attendant = 7; counts = record { held = 2; passed = 1; declined = 3; changes = 1 }; cost = None; floor = None } ∷ [])
 
+-- the panel after them
+abbrev pub panel : State one_bus
+panel = record { case = 8; shown = Some (record { dispatch = 8; cost = pos 8 }); floor = None; watch = None }
+
 abbrev pub ExampleRun : Type 0
-ExampleRun =
-    Run one_bus 5 calls sheets (record { case = 8; shown = Some (record { dispatch = 8; cost = pos 8 }); floor = None; watch = None })
+ExampleRun = Run one_bus 5 calls sheets panel
+
+-- these calls lead to no other panel, and write no other sheets
+abbrev pub NoOtherRun : Type 0
+NoOtherRun = (sheets' : List Sheet) (s : State one_bus) → Run one_bus 5 calls sheets' s → SamePanel sheets' sheets s panel

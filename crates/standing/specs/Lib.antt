@@ -7,3 +7,4 @@ pub mod Told
 pub mod Standing
 pub mod Theorems
 pub mod Example
+pub mod ExampleGrounds

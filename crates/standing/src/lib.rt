@@ -2,8 +2,10 @@
 #![tactic(auto)]
 
 ghost use Rattle.standing.specs.Model.{Model, Grounds};
-ghost use Rattle.standing.specs.Example.{one_bus, ExampleRun};
+ghost use Rattle.standing.specs.Standing.{Stands};
+ghost use Rattle.standing.specs.Example.{one_bus, calls, sheets, panel, ExampleRun, NoOtherRun};
 ghost use Rattle.standing.specs.Theorems.{StandingTheorem, PinningTheorem, SameCallsTheorem, RefusalsAlterNothing, ReofferedTheorem};
+ghost use Rattle.standing.specs.ExampleGrounds.{one_bus_grounds};
 
 // A network, as a panel needs it.
 pub trait Network {
@@ -38,3 +40,21 @@ pub fn example_runs()
     ensures grounds { Grounds one_bus }
     ensures run { ExampleRun }
 {}
+
+// The network of that run.
+pub struct OneBus;
+
+impl Network for OneBus {
+    ghost model = { one_bus };
+
+    ghost grounds = { one_bus_grounds };
+}
+
+// What stands after that run, by the theorems about runs of any network; and its calls lead to no other panel and write no other sheets.
+pub fn example_stands()
+    ensures stands { Stands one_bus 5 calls sheets panel }
+    ensures no_other { NoOtherRun }
+{
+    standing_stands::<OneBus>();
+    standing_pins::<OneBus>();
+}

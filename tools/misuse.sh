@@ -20,7 +20,7 @@ use panel::panel::Panel;
 use panel::watch::Idle;
 use std::test::Fail;
 
-pub fn of_panel(panel: Panel<Curved, Curved, Idle>, words: &[u32]) {
+pub fn of_panel(panel: Panel<Curved, Curved, Idle>, words: &[u32], page: &mut [u8; 256]) {
     $1
 }
 
@@ -45,7 +45,7 @@ expect() {
 }
 
 expect 'a panel is manned, offered to and stood down' \
-    'let mut panel = panel.man(1); let _ = panel.offer_dispatch(words); let (_, _) = panel.stand_down();' \
+    'let mut panel = panel.man(1); let _ = panel.offer_dispatch(words); let (_, _) = panel.stand_down(page);' \
     '1 passed; 0 failed'
 expect 'offering to a panel that nobody mans' \
     'let mut panel = panel; let _ = panel.offer_dispatch(words);' \

@@ -11,7 +11,7 @@ use Rattle.measure.specs.declared.Grains.{Grains}
 use Rattle.case_paper.specs.declared.shown.Shown.{Shown}
 use Rattle.sheet.proofs.Readings.{InLine, Shorts, in_line_of, in_lines_of, lines_cut, read_shown, sheet_from_lines}
 use Rattle.sheet.specs.declared.sheet.Sheet.{Sheet}
-use Rattle.sheet.specs.Figure.{Short, shown, line_of, amount_of, gap_of}
+use Rattle.sheet.specs.Figure.{Short, shown, line_of, amount_of, excess_of, gap_of}
 use Rattle.sheet.specs.Lines.{ended}
 use Rattle.sheet.specs.Reading.{lines_in, after_space, read_figure, sheet_from}
 use Rattle.answer.specs.Laws.{GrainsFit, ShownFits, SheetFits, AnswerFits, PrintedTells}
@@ -26,7 +26,7 @@ amount_short : (o : Option Grains) → IfSome o GrainsFit → Short (amount_of o
 amount_short None f = tt
 amount_short (Some g) f = grains_short g f
 
-gap_short : (x y : Option Grains) → IfSome x GrainsFit → IfSome y GrainsFit → Short (gap_of x y)
+gap_short : (x y : Option Grains) → IfSome x GrainsFit → IfSome y GrainsFit → Short (excess_of (gap_of x y))
 gap_short None y f g = tt
 gap_short (Some x) None f g = tt
 gap_short (Some x) (Some y) f g = omega (arith, ints)

@@ -22,7 +22,7 @@ use Rattle.case_paper.specs.CaseFault.{count_rank, head_count, CountsMet, Lawful
 use Rattle.case_paper.specs.declared.sort.Sort.{Sort}
 use Rattle.case_paper.specs.declared.sort.Sort.TheVariants as sort
 use Rattle.case_paper.proofs.Outcomes.{form_same}
-use Rattle.case_tables.specs.declared.read.ReadCase.{ReadCase}
+use Rattle.build.specs.declared.tables.LaidCase.{LaidCase}
 use Rattle.case_tables.specs.Rows.{record_of, bus_row, stepped_row, curved_row, branch_row, bus_rows, stepped_rows, curved_rows, branch_rows}
 use Rattle.case_tables.specs.Read.{Tables, rows_provided, Written, CaseRead}
 use Rattle.case_tables.specs.Told.{RawCase, with_amounts, head_numbers, case_words, SteppedKept, CurvedKept, BranchKept, LawfulRows, WrittenBy, RowsRead, ReadTold, CaseTold}
@@ -407,7 +407,7 @@ one room other c d l m e = sym (rows_same room c l) ∙ rows_of other (case_word
 told : (room w : List ℕ) → LawfulCase room w → (c : RawCase) × WrittenBy room w c
 told room w l = (case_rows l.form, record { lawful = case_lawful room w l; words = case_written room w l })
 
-read : (w : List ℕ) (before after : Tables) (v : ReadCase) (r : CaseRead w before after v) (room : List ℕ) (c : RawCase) → WrittenBy room w c → RowsRead c r.offer before after
+read : (w : List ℕ) (before after : Tables) (v : LaidCase) (r : CaseRead w before after v) (room : List ℕ) (c : RawCase) → WrittenBy room w c → RowsRead c r.offer before after
 read w before after v r room c k =
     let e = rows_of room w r.lawful.form c k in
     record {
@@ -420,7 +420,7 @@ read w before after v r room c k =
       curved = subst (λ (x : RawCase). Written x.curved before.curved after.curved) e r.curved;
     }
 
-pub read_told : (w : List ℕ) (before after : Tables) (v : ReadCase) → CaseRead w before after v → ReadTold w before after v
+pub read_told : (w : List ℕ) (before after : Tables) (v : LaidCase) → CaseRead w before after v → ReadTold w before after v
 read_told w before after v r =
     let t = told (rows_provided before) w r.lawful in
     record { read = r; rows = t.0; written = t.1; laid = read w before after v r (rows_provided before) t.0 t.1 }

@@ -17,8 +17,12 @@ use paper_file::papers::paper_len;
 use std::alloc::AllocError;
 use stepped::stepped::Stepped;
 
-// What the paper is answered, by the call that it goes to.
-fn answer_paper(panel: &mut Panel<Stepped, Curved, Watch>, paper: &[u32]) -> Answer
+// What the paper is answered, by the call that it goes to. A hand-over writes its sheet on the page.
+fn answer_paper(
+    panel: &mut Panel<Stepped, Curved, Watch>,
+    paper: &[u32],
+    page: &mut [u8; 256],
+) -> Answer
     ensures { CalledSo stepped_meaning curved_meaning paper.now (manned stepped_meaning curved_meaning panel.old) (manned stepped_meaning curved_meaning panel.new) result }
 {
     match call_of(paper) {
@@ -27,7 +31,7 @@ fn answer_paper(panel: &mut Panel<Stepped, Curved, Watch>, paper: &[u32]) -> Ans
         Call::Demand => change_answer(panel.change_demand(paper)),
         Call::Mark => change_answer(panel.change_mark(paper)),
         Call::Trial => trial_answer(panel.trial(paper)),
-        Call::HandOver => hand_over_answer(panel.hand_over(paper)),
+        Call::HandOver => hand_over_answer(panel.hand_over(paper, page)),
     }
 }
 
@@ -35,6 +39,7 @@ fn answer_paper(panel: &mut Panel<Stepped, Curved, Watch>, paper: &[u32]) -> Ans
 pub(crate) fn answer_papers(
     panel: &mut Panel<Stepped, Curved, Watch>,
     words: &[u32],
+    page: &mut [u8; 256],
     text: &mut Vec<u8>,
 ) -> Result<(), AllocError>
     ensures { IfOk result (λ _. Printed (PapersAnswered stepped_meaning curved_meaning (manned stepped_meaning curved_meaning panel.old) (papers words.now) (manned stepped_meaning curved_meaning panel.new)) text.old.items text.new.items) }
@@ -42,7 +47,7 @@ pub(crate) fn answer_papers(
     let mut rest = words;
     while !rest.is_empty() {
         let (paper, later) = rest.split_at(paper_len(rest));
-        answer_paper(panel, paper).append_to(text)?;
+        answer_paper(panel, paper, page).append_to(text)?;
         rest = later;
     }
     Ok(())

@@ -33,10 +33,11 @@ fn run_panel(
     requires { Begins stepped_meaning curved_meaning panel }
     ensures { IfOk result (λ _. Printed (PanelRun stepped_meaning curved_meaning (sized_case panel.entry) (papers words.now)) text.old.items text.new.items) }
 {
+    let mut page = [b' '; 256];
     let mut panel = panel.man(FIRST_ATTENDANT);
-    let answered = answer_papers(&mut panel, words, text);
+    let answered = answer_papers(&mut panel, words, &mut page, text);
     // Where memory ran out too: a manned panel can't be let go.
-    let (sheet, _) = panel.stand_down();
+    let (sheet, _) = panel.stand_down(&mut page);
     answered?;
     Answer::Sheet(sheet).append_to(text)
 }
@@ -59,7 +60,7 @@ fn run_words(words: &[u32], text: &mut Vec<u8>) -> Result<(), AllocError>
     let (mut machines, mut tables) = blank_tables();
     let (paper, later) = words.split_at(paper_len(words));
     match Panel::from_paper(paper, &mut machines, &mut tables) {
-        Err(fault) => Answer::Refused(Shown::from(fault)).append_to(text),
+        Err(refused) => Answer::Refused(Shown::from(refused.fault)).append_to(text),
         Ok(panel) => {
             Answer::Case.append_to(text)?;
             run_panel(panel, later, text)

@@ -1,5 +1,5 @@
 -- A new panel: the tables that it is lent, and the case with which it begins.
-use Rattle.std.specs.Prelude.{◌≡◌, ℕ, ◌+◌, ◌-◌, List, [], length, take, pos, slice_index}
+use Rattle.std.specs.Prelude.{◌≡◌, ℕ, ◌+◌, ◌-◌, List, [], length, take, drop, pos, slice_index}
 use Rattle.machine.specs.Meaning.{Meaning}
 use Rattle.network.specs.Model.{Case}
 use Rattle.stepped.specs.declared.stepped.Stepped.{Stepped}
@@ -56,6 +56,8 @@ module _ {M N : Type 0} where
   pub record PlacesTaken (t : Tables) (p : Panel M N Idle) : Type 0 where
     pub powers : p.powers.now ≡ take (length (case_on p).first.machines + length (case_on p).second.machines) t.powers
     pub angles : p.angles.now ≡ take (length (case_on p).buses - 1) t.angles
+    pub spare_powers : p.spare_powers.now ≡ drop (length (case_on p).first.machines + length (case_on p).second.machines) t.powers
+    pub spare_angles : p.spare_angles.now ≡ drop (length (case_on p).buses - 1) t.angles
 
 module _ {M N : Type 0} (𝓜 : Meaning M) (𝓝 : Meaning N) where
   -- the panel is idle and shows nothing, its case is well formed, and a run of calls begins on it

@@ -14,6 +14,8 @@ module _ {M N S T : Type 0} where
     pub nl : q.nl ≡ p.nl
     pub buses : drop p.nb q.buses.now ≡ drop p.nb p.buses.now
     pub branches : drop p.nl q.branches.now ≡ drop p.nl p.branches.now
+    pub spare_powers : q.spare_powers.now ≡ p.spare_powers.now
+    pub spare_angles : q.spare_angles.now ≡ p.spare_angles.now
 
   -- and the tables of powers and angles are as they were too
   pub record SameTables (p : Panel M N S) (q : Panel M N T) : Type 0 where

@@ -12,6 +12,7 @@ pub mod panel;
 mod question;
 pub mod reading;
 pub mod refusal;
+pub mod refused;
 mod shown;
 pub mod tables;
 mod trial;

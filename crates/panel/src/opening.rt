@@ -1,5 +1,5 @@
 // Panels from tables of rows and from case papers.
-ghost use Rattle.std.specs.Prelude.{◌≡◌, IfOk, MatchResult};
+ghost use Rattle.std.specs.Prelude.{◌≡◌, IfErr, IfOk, MatchResult};
 ghost use Rattle.stepped.specs.Piecewise.{stepped_meaning};
 ghost use Rattle.curved.specs.Quadratic.{curved_meaning};
 ghost use Rattle.build.specs.Build.{WellFormed, room_of};
@@ -9,16 +9,15 @@ ghost use Rattle.panel.specs.View.{case_on};
 ghost use Rattle.panel.specs.Opening.{Begins, OnTables, PlacesTaken, RowsOpened, PaperOpened, lent_in, tables_in, case_in};
 
 use crate::panel::Panel;
+use crate::refused::{PaperRefused, RowsRefused};
 use crate::tables::{MachineTables, Tables};
 use crate::watch::Idle;
 use build::build::lay;
 use build::tables::{Counts, Rows};
-use case_paper::fault::CaseFault;
 use case_tables::read::read_case;
 use curved::curved::Curved;
 use machine::machine::Machine;
 use network::case::{Machines, rows_used};
-use network::refusal::Refusal;
 use stepped::stepped::Stepped;
 
 // A new panel of the case that the tables and these machines make. Of the tables of powers and angles it takes a place for each machine, and for each bus
@@ -54,8 +53,10 @@ fn opened<'a, M: Machine, N: Machine>(
         places: second_places,
         count: counts.second,
     };
-    let (powers, _) = powers.split_at_mut(first.used().len() + second.used().len());
-    let (angles, _) = angles.split_at_mut(usize::from(rows_used(buses, counts.buses)) - 1);
+    let power_count = first.used().len() + second.used().len();
+    let angle_count = usize::from(rows_used(buses, counts.buses)) - 1;
+    let (powers, spare_powers) = powers.split_at_mut(power_count);
+    let (angles, spare_angles) = angles.split_at_mut(angle_count);
     Panel {
         tolerance,
         buses,
@@ -66,6 +67,8 @@ fn opened<'a, M: Machine, N: Machine>(
         nl: counts.branches,
         powers,
         angles,
+        spare_powers,
+        spare_angles,
         cost: None,
         floor: None,
         state: Idle,
@@ -78,17 +81,21 @@ impl<'a, M: Machine, N: Machine> Panel<'a, M, N, Idle> {
     pub fn from_rows<'r: 'a>(
         rows: &Rows<'r, M, N>,
         tables: &'a mut Tables,
-    ) -> Result<Panel<'a, M, N, Idle>, Refusal>
-        ensures exact { MatchResult result (λ p. RowsOpened M.meaning N.meaning rows.now tables.old p) (λ e. Refused M.meaning N.meaning rows.now (room_of (lent_in tables.old)) e) }
+    ) -> Result<Panel<'a, M, N, Idle>, RowsRefused<'a>>
+        ensures exact { MatchResult result (λ p. RowsOpened M.meaning N.meaning rows.now tables.old p) (λ e. Refused M.meaning N.meaning rows.now (room_of (lent_in tables.old)) e.refusal) }
+        ensures given_back { IfErr result (λ e. e.tables.now ≡ tables.old) }
         ensures run { IfOk result (λ p. Begins M.meaning N.meaning p) }
     {
-        let laid = lay(
+        let laid = match lay(
             rows,
             &mut tables.buses,
             &mut tables.first,
             &mut tables.second,
             &mut tables.branches,
-        )?;
+        ) {
+            Ok(laid) => laid,
+            Err(refusal) => return Err(RowsRefused { refusal, tables }),
+        };
         Ok(opened(
             laid.tolerance,
             laid.counts,
@@ -106,12 +113,13 @@ impl<'a> Panel<'a, Stepped, Curved, Idle> {
         words: &[u32],
         machines: &'m mut MachineTables,
         tables: &'a mut Tables,
-    ) -> Result<Panel<'a, Stepped, Curved, Idle>, CaseFault>
-        ensures exact { MatchResult result (λ p. PaperOpened words.now (tables_in machines.old tables.old) p) (λ f. Unread words.now (tables_in machines.old tables.old) f) }
+    ) -> Result<Panel<'a, Stepped, Curved, Idle>, PaperRefused<'m, 'a>>
+        ensures exact { MatchResult result (λ p. PaperOpened words.now (tables_in machines.old tables.old) p) (λ e. Unread words.now (tables_in machines.old tables.old) e.fault) }
+        ensures given_back { IfErr result (λ e. (e.machines.now ≡ machines.old) × (e.tables.now ≡ tables.old)) }
         ensures run { IfOk result (λ p. Begins stepped_meaning curved_meaning p) }
         ensures places { IfOk result (λ p. PlacesTaken tables.old p) }
     {
-        let read = read_case(
+        let read = match read_case(
             words,
             &mut tables.buses,
             &mut machines.stepped,
@@ -119,7 +127,16 @@ impl<'a> Panel<'a, Stepped, Curved, Idle> {
             &mut machines.curved,
             &mut tables.second,
             &mut tables.branches,
-        )?;
+        ) {
+            Ok(read) => read,
+            Err(fault) => {
+                return Err(PaperRefused {
+                    fault,
+                    machines,
+                    tables,
+                });
+            }
+        };
         Ok(opened(
             read.tolerance,
             read.counts,

@@ -13,7 +13,7 @@ use crate::refusal::ReadOutRefusal;
 use crate::watch::Manning;
 use machine::machine::Machine;
 use paper::write::write_dispatch;
-use sheet::gap::gap;
+use sheet::gap::Gap;
 
 impl<'a, M: Machine, N: Machine, S: Manning> Panel<'a, M, N, S> {
     // The cost and the floor that are shown, and the gap.
@@ -25,7 +25,7 @@ impl<'a, M: Machine, N: Machine, S: Manning> Panel<'a, M, N, S> {
         Reading {
             cost: self.cost,
             floor: self.floor,
-            gap: gap(self.cost, self.floor),
+            gap: Gap::between(self.cost, self.floor),
         }
     }
 

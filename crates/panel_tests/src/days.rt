@@ -7,8 +7,13 @@ use panel::outcome::Outcome;
 use panel::panel::Panel;
 use panel::reading::Reading;
 use panel::tables::Tables;
+use sheet::gap::Gap;
 use sheet::sheet::Sheet;
 use std::test::Fail;
+
+// The sheet of the day.
+const LINES: &[u8] =
+    b"WATCH 7\nHELD 3\nPASSED 2\nDECLINED 3\nCHANGES 0\nCOST 24080\nFLOOR 24000\nGAP 80\n";
 
 // A refusal as it is shown.
 fn refusal(number: u32, place: usize) -> Shown {
@@ -62,10 +67,16 @@ fn a_day(rt: HostRuntime) -> Result<(), Fail> {
     let reading = Reading {
         cost: Some(Grains(24_080)),
         floor: Some(Grains(24_000)),
-        gap: Some(80),
+        gap: Some(Gap(80)),
     };
     assert_eq!(rt; panel.read(), reading);
-    let (sheet, panel) = panel.stand_down();
+    let mut page = [0; 256];
+    assert_eq!(rt;
+        panel.hand_over(&[], &mut page).map_err(Shown::from),
+        Err(refusal(2, 0))
+    );
+    assert_eq!(rt; page, [0; 256]);
+    let (sheet, panel) = panel.stand_down(&mut page);
     let expected = Sheet {
         attendant: 7,
         held: 3,
@@ -76,6 +87,7 @@ fn a_day(rt: HostRuntime) -> Result<(), Fail> {
         floor: Some(Grains(24_000)),
     };
     assert_eq!(rt; sheet, expected);
+    assert_eq!(rt; &page[..LINES.len()], LINES);
     assert_eq!(rt; panel.read(), reading);
     Ok(())
 }

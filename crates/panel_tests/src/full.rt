@@ -44,9 +44,10 @@ fn a_full_watch(rt: HostRuntime) -> Result<(), Fail> {
     );
     assert_eq!(rt; panel.change_mark(&OUT).map_err(Shown::from), Err(full));
     assert_eq!(rt; panel.trial(&TRIAL), Ok(Grains(30_500)));
-    let sheet = panel.hand_over(&NEXT);
+    let mut page = [0; 256];
+    let sheet = panel.hand_over(&NEXT, &mut page);
     let again = panel.offer_dispatch(&CHEAP);
-    let (last, _) = panel.stand_down();
+    let (last, _) = panel.stand_down(&mut [0; 256]);
     let sheet = sheet?;
     assert_eq!(rt;
         (sheet.attendant, sheet.held, sheet.declined),

@@ -2,11 +2,15 @@
 use crate::harbour::*;
 use build::tables::Rows;
 use case_paper::shown::Shown;
+use curved::curved::Curved;
 use measure::{Grains, Watts};
+use network::size::MACHINES;
 use panel::outcome::Outcome;
 use panel::panel::Panel;
-use panel::tables::Tables;
+use panel::refused::{PaperRefused, RowsRefused};
+use panel::tables::{MachineTables, Tables};
 use std::test::Fail;
+use stepped::stepped::Stepped;
 
 #[test]
 fn readings_out(rt: HostRuntime) -> Result<(), Fail> {
@@ -63,7 +67,7 @@ fn readings_out(rt: HostRuntime) -> Result<(), Fail> {
         panel.offer_dispatch(&words).map_err(Shown::from),
         Err(unbalanced)
     );
-    let (sheet, _) = panel.stand_down();
+    let (sheet, _) = panel.stand_down(&mut [0; 256]);
     assert_eq!(rt;
         (sheet.held, sheet.passed, sheet.declined, sheet.changes),
         (2, 1, 1, 2)
@@ -94,16 +98,16 @@ fn other_kinds(rt: HostRuntime) -> Result<(), Fail> {
         panel.offer_dispatch(&one_too_few),
         Ok(Outcome::Held(Grains(30_220)))
     );
-    let (sheet, _) = panel.stand_down();
+    let (sheet, _) = panel.stand_down(&mut [0; 256]);
     assert_eq!(rt; sheet.held, 2);
     Ok(())
 }
 
-// Rows that are refused leave the lent tables as they were, and the tables can be lent again.
+// Rows that are refused leave the lent tables as they were, and a panel is opened on those that come back.
 #[test]
 fn a_refused_case(rt: HostRuntime) -> Result<(), Fail> {
-    let mut tables = Tables::BLANK;
-    tables.buses[0].demand = Watts(5);
+    let mut lent = Tables::BLANK;
+    lent.buses[0].demand = Watts(5);
     let mut rows = Rows {
         tolerance: Watts(0),
         buses: &BUSES[1..],
@@ -111,22 +115,47 @@ fn a_refused_case(rt: HostRuntime) -> Result<(), Fail> {
         second: &CURVED,
         branches: &BRANCHES,
     };
+    let RowsRefused { refusal, tables } = match Panel::from_rows(&rows, &mut lent) {
+        Ok(_) => return Err(Fail::new("not refused")),
+        Err(refused) => refused,
+    };
     let unknown = Shown {
         number: 9,
         place: 0,
     };
-    let refused = match Panel::from_rows(&rows, &mut tables) {
-        Ok(_) => None,
-        Err(refusal) => Some(Shown::from(refusal)),
-    };
-    assert_eq!(rt; refused, Some(unknown));
-    let demand = match tables.buses.first() {
-        Some(bus) => bus.demand,
-        None => Watts(0),
-    };
-    assert_eq!(rt; demand, Watts(5));
+    assert_eq!(rt; Shown::from(refusal), unknown);
+    assert_eq!(rt; tables.buses[0].demand, Watts(5));
     rows.buses = &BUSES;
-    let panel = Panel::from_rows(&rows, &mut tables)?;
+    let panel = Panel::from_rows(&rows, tables)?;
+    assert_eq!(rt; panel.read().cost, None);
+    Ok(())
+}
+
+// The case of one bus.
+const ONE_BUS: [u32; 9] = [0x1000_0001, A, A + 1, A, A, A, 0x2000_0001, A, END];
+
+// The same of its paper without the end word.
+#[test]
+fn a_refused_paper(rt: HostRuntime) -> Result<(), Fail> {
+    let mut machines = MachineTables {
+        stepped: [Stepped::default(); MACHINES],
+        curved: [Curved::default(); MACHINES],
+    };
+    let mut tables = Tables::BLANK;
+    let PaperRefused {
+        fault,
+        machines,
+        tables,
+    } = match Panel::from_paper(&ONE_BUS[..8], &mut machines, &mut tables) {
+        Ok(_) => return Err(Fail::new("not refused")),
+        Err(refused) => refused,
+    };
+    let stops = Shown {
+        number: 2,
+        place: 8,
+    };
+    assert_eq!(rt; Shown::from(fault), stops);
+    let panel = Panel::from_paper(&ONE_BUS, machines, tables)?;
     assert_eq!(rt; panel.read().cost, None);
     Ok(())
 }

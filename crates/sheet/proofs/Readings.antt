@@ -6,10 +6,11 @@ use Rattle.std.proofs.lemmas.List.Elements.{All-nil, All-cons, All-head, All-tai
 use Rattle.std.specs.List.{AllByRecursion}
 use Rattle.std.specs.Str.Parse.{digits_value, AllDigits}
 use Rattle.measure.specs.declared.Grains.{Grains}
+use Rattle.sheet.specs.declared.gap.Gap.{Gap}
 use Rattle.sheet.specs.declared.sheet.Sheet.{Sheet}
-use Rattle.sheet.specs.Figure.{Short, shown, line_of, amount_of, gap_of}
+use Rattle.sheet.specs.Figure.{Short, shown, line_of, amount_of, excess_of, gap_of}
 use Rattle.sheet.specs.Lines.{ended, lines_of, sheet_lines, sheet_bytes}
-use Rattle.sheet.specs.Reading.{lines_after, lines_in, read_minus, read_figure, grains_of, figure_at, sheet_from, read_sheet, read_gap}
+use Rattle.sheet.specs.Reading.{lines_after, lines_in, read_minus, read_figure, grains_of, gap_from, figure_at, sheet_from, read_sheet, read_gap}
 
 -- no byte of the text ends a line
 abbrev pub InLine : List ℕ → Type 0
@@ -62,6 +63,10 @@ grains-same : (o : Option Grains) → grains_of (amount_of o) ≡ o
 grains-same None = refl
 grains-same (Some g) = refl
 
+gap-same : (o : Option Gap) → gap_from (excess_of o) ≡ o
+gap-same None = refl
+gap-same (Some g) = refl
+
 -- each figure has at most twenty digits
 pub record Shorts (s : Sheet) : Type 0 where
   pub attendant : Short (Some (pos s.attendant))
@@ -71,7 +76,7 @@ pub record Shorts (s : Sheet) : Type 0 where
   pub changes : Short (Some (pos s.changes))
   pub cost : Short (amount_of s.cost)
   pub floor : Short (amount_of s.floor)
-  pub gap : Short (gap_of s.cost s.floor)
+  pub gap : Short (excess_of (gap_of s.cost s.floor))
 
 pub in_line_of : (word : List ℕ) (figure : Option ℤ) → AllByRecursion (λ b. 10 < b) word → Short figure → InLine (line_of word figure)
 in_line_of word figure w s =
@@ -93,7 +98,7 @@ in_lines_of s h = All-from_recursion InLine (lines_of s) (
             (
               in_line_of (codes "FLOOR") (amount_of s.floor) (omega arith) h.floor,
               (
-                in_line_of (codes "GAP") (gap_of s.cost s.floor) (omega arith) h.gap,
+                in_line_of (codes "GAP") (excess_of (gap_of s.cost s.floor)) (omega arith) h.gap,
                 tt,
               ),
             ),
@@ -126,4 +131,6 @@ sheet_again s h = ap sheet_from (lines_again s h) ∙ sheet_from_lines s [] h
 
 pub gap_again : (s : Sheet) → Shorts s → read_gap (sheet_bytes s) ≡ gap_of s.cost s.floor
 unfolding read_gap
-gap_again s h = ap (λ ls. read_figure (figure_at ls 7)) (lines_again s h) ∙ read_shown (gap_of s.cost s.floor) h.gap
+gap_again s h =
+    let gap = gap_of s.cost s.floor in
+    ap (λ ls. gap_from (read_figure (figure_at ls 7))) (lines_again s h) ∙ ap gap_from (read_shown (excess_of gap) h.gap) ∙ gap-same gap

@@ -1,6 +1,6 @@
 -- The bytes of a sheet.
 use Rattle.std.specs.Prelude.{ℕ, ◌-◌, List, [], ◌∷◌, ◌++◌, length, replicate, pos, Some, codes}
-use Rattle.sheet.specs.Figure.{amount_of, gap_of, line_of}
+use Rattle.sheet.specs.Figure.{amount_of, excess_of, gap_of, line_of}
 use Rattle.sheet.specs.declared.sheet.Sheet.{Sheet}
 
 -- the eight lines, without what ends them
@@ -13,7 +13,7 @@ lines_of s =
     ∷ line_of (codes "CHANGES") (Some (pos s.changes))
     ∷ line_of (codes "COST") (amount_of s.cost)
     ∷ line_of (codes "FLOOR") (amount_of s.floor)
-    ∷ line_of (codes "GAP") (gap_of s.cost s.floor)
+    ∷ line_of (codes "GAP") (excess_of (gap_of s.cost s.floor))
     ∷ []
 
 -- each line is ended by byte 10

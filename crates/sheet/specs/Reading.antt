@@ -2,6 +2,7 @@
 use Rattle.std.specs.Prelude.{ℕ, cond, List, [], ◌∷◌, ◌++◌, ℤ, pos, neg_ℤ, Some, None, Option, ◌==◌, slice_index_or}
 use Rattle.std.specs.Str.Parse.{digits_value}
 use Rattle.measure.specs.declared.Grains.{Grains}
+use Rattle.sheet.specs.declared.gap.Gap.{Gap}
 use Rattle.sheet.specs.declared.sheet.Sheet.{Sheet}
 
 -- the lines in the bytes, after what is already read of the first
@@ -30,6 +31,10 @@ abbrev pub grains_of : Option ℤ → Option Grains
 grains_of None = None
 grains_of (Some z) = Some (record { 0 = z })
 
+abbrev pub gap_from : Option ℤ → Option Gap
+gap_from None = None
+gap_from (Some z) = Some (record { 0 = z })
+
 -- the text of the figure in that line
 abbrev pub figure_at : List (List ℕ) → ℕ → List ℕ
 figure_at lines k = after_space (slice_index_or lines k [])
@@ -48,5 +53,5 @@ sheet_from lines = record {
 unfoldable pub read_sheet : List ℕ → Sheet
 read_sheet bytes = sheet_from (lines_in bytes)
 
-unfoldable pub read_gap : List ℕ → Option ℤ
-read_gap bytes = read_figure (figure_at (lines_in bytes) 7)
+unfoldable pub read_gap : List ℕ → Option Gap
+read_gap bytes = gap_from (read_figure (figure_at (lines_in bytes) 7))

@@ -1,8 +1,9 @@
 // The figures of a sheet as numbers.
 ghost use Rattle.std.specs.Prelude.{◌≡◌, pos, Some};
 ghost use Rattle.std.proofs.Props.{props};
-ghost use Rattle.sheet.specs.Figure.{Short, amount_of};
+ghost use Rattle.sheet.specs.Figure.{Short, amount_of, excess_of, gap_of};
 
+use crate::gap::Gap;
 use measure::Grains;
 
 // A number of at most twenty digits, or none.
@@ -10,6 +11,17 @@ use measure::Grains;
 pub(crate) struct Figure {
     pub(crate) value: Option<i128>,
     ghost short: { Short value } by { Prim.hlevel props },
+}
+
+impl Figure {
+    // The gap between the cost and the floor, where both stand.
+    pub(crate) fn of_gap(cost: Option<Grains>, floor: Option<Grains>) -> Figure
+        ensures { result.value ≡ excess_of (gap_of cost floor) }
+    {
+        Figure {
+            value: Gap::between(cost, floor).map(|gap| gap.0),
+        }
+    }
 }
 
 // A count.

@@ -6,7 +6,6 @@ ghost use Rattle.sheet.specs.Page.{text_of};
 ghost use Rattle.sheet.specs.Reading.{read_sheet, read_gap};
 
 use crate::figure::Figure;
-use crate::gap::gap;
 use crate::page::Page;
 use measure::Grains;
 
@@ -40,12 +39,7 @@ impl Sheet {
         page.push_line(b"CHANGES", Figure::from(self.changes));
         page.push_line(b"COST", Figure::from(self.cost));
         page.push_line(b"FLOOR", Figure::from(self.floor));
-        page.push_line(
-            b"GAP",
-            Figure {
-                value: gap(self.cost, self.floor),
-            },
-        );
+        page.push_line(b"GAP", Figure::of_gap(self.cost, self.floor));
         page
     }
 }

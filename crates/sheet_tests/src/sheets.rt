@@ -1,6 +1,6 @@
 // Whole sheets, and gaps.
 use measure::Grains;
-use sheet::gap::gap;
+use sheet::gap::Gap;
 use sheet::sheet::Sheet;
 use std::iter::repeat;
 use std::process::Abort;
@@ -116,8 +116,9 @@ fn the_longest_figures(rt: HostRuntime) {
 
 #[test]
 fn gaps(rt: HostRuntime) {
-    assert_eq!(rt; gap(Some(Grains(7)), Some(Grains(9))), Some(-2));
-    assert_eq!(rt; gap(Some(Grains(9)), Some(Grains(7))), Some(2));
-    assert_eq!(rt; gap(Some(Grains(9)), None), None);
-    assert_eq!(rt; gap(None, Some(Grains(9))), None);
+    let (low, high) = (Some(Grains(7)), Some(Grains(9)));
+    assert_eq!(rt; Gap::between(low, high), Some(Gap(-2)));
+    assert_eq!(rt; Gap::between(high, low), Some(Gap(2)));
+    assert_eq!(rt; Gap::between(high, None), None);
+    assert_eq!(rt; Gap::between(None, high), None);
 }

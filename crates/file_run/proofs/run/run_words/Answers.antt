@@ -12,7 +12,7 @@ returns-in-Err c =
     let tables = tables_in c.blank_tables.result.0 c.blank_tables.result.1 in
     let fits : ShownFits c.from.result = search rules in
     IfOk-weaker c.append_to.result _ _
-    (λ v e. case_refused _ _ _ _ c.paper_len.ensures c.split_at.ensures.front c.split_at.ensures.back _ tables c.blank_tables.ensures _ c.in-Err.fault c.in-Err.ensures.exact (subst ShownFits c.from.ensures fits) (e ∙ ap (λ s. c.args.text.now.items ++ printed (Refused s)) c.from.ensures))
+    (λ v e. case_refused _ _ _ _ c.paper_len.ensures c.split_at.ensures.front c.split_at.ensures.back _ tables c.blank_tables.ensures _ c.in-Err.refused.fault c.in-Err.ensures.exact (subst ShownFits c.from.ensures fits) (e ∙ ap (λ s. c.args.text.now.items ++ printed (Refused s)) c.from.ensures))
     c.append_to.ensures
 
 pub returns-in_ok-append_to-in-Ok : goal.returns-in_ok-append_to-in-Ok

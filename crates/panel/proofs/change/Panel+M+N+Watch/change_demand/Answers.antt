@@ -61,6 +61,8 @@ returns-clause-tables g c =
         nl = n.rest.nl;
         buses = n.rest.buses ∙ later;
         branches = n.rest.branches;
+        spare_powers = n.rest.spare_powers;
+        spare_angles = n.rest.spare_angles;
       };
       powers = n.powers;
       angles = n.angles;

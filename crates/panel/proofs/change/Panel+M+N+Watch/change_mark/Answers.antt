@@ -65,6 +65,8 @@ returns-clause-tables g c =
         nl = n.rest.nl;
         branches = n.rest.branches ∙ later;
         buses = n.rest.buses;
+        spare_powers = n.rest.spare_powers;
+        spare_angles = n.rest.spare_angles;
       };
       powers = n.powers;
       angles = n.angles;

@@ -10,7 +10,7 @@ pub returns-in_err-attendant-clause-standing : goal.returns-in_err-attendant-cla
 returns-in_err-attendant-clause-standing g c = stands_on g.M.Machine.meaning g.N.Machine.meaning g.met.M.Machine.lawful g.met.N.Machine.lawful _
 
 pub returns-clause-step : goal.returns-clause-step
-returns-clause-step g c = hand_over_step g.M.Machine.meaning g.N.Machine.meaning _ _ _ _ refl (Ok c.sheet-sheet.result) (search rules)
+returns-clause-step g c = hand_over_step g.M.Machine.meaning g.N.Machine.meaning _ _ _ _ refl (Ok c.write_sheet-sheet.result) (search rules)
 
 pub returns-clause-sheet : goal.returns-clause-sheet
 returns-clause-sheet g c = sheet_stands_on g.M.Machine.meaning g.N.Machine.meaning g.met.M.Machine.lawful g.met.N.Machine.lawful _ _ refl _ (search rules)

@@ -1,5 +1,5 @@
 use Rattle.std.proofs.Common.{◌≡◌, pos, Some, codes, ap, ◌∙◌, subst, arith}
-use Rattle.sheet.specs.Figure.{Short, amount_of, gap_of, line_of}
+use Rattle.sheet.specs.Figure.{Short, amount_of, excess_of, gap_of, line_of}
 use Rattle.sheet.specs.Lines.{sheet_lines, sheet_bytes}
 use Rattle.sheet.specs.Page.{text_of}
 use Rattle.sheet.specs.Reading.{read_sheet, read_gap}
@@ -30,12 +30,12 @@ text-written c =
       c.from-6.ensures,
       c.from-7.ensures,
       c.from-8.ensures,
-      c.gap.ensures.value,
+      c.of_gap.ensures,
     )
     (eight_ended (line_of (codes "WATCH") (Some (pos s.attendant))) (line_of (codes "HELD") (Some (pos s.held)))
     (line_of (codes "PASSED") (Some (pos s.passed))) (line_of (codes "DECLINED") (Some (pos s.declined)))
     (line_of (codes "CHANGES") (Some (pos s.changes))) (line_of (codes "COST") (amount_of s.cost))
-    (line_of (codes "FLOOR") (amount_of s.floor)) (line_of (codes "GAP") (gap_of s.cost s.floor)))
+    (line_of (codes "FLOOR") (amount_of s.floor)) (line_of (codes "GAP") (excess_of (gap_of s.cost s.floor))))
 
 shorts : (c : goal.After-push_line-8) → Shorts c.args.self.now
 shorts c = record {
@@ -46,7 +46,7 @@ shorts c = record {
   changes = subst Short c.from-6.ensures c.from-6.result.short;
   cost = subst Short c.from-7.ensures c.from-7.result.short;
   floor = subst Short c.from-8.ensures c.from-8.result.short;
-  gap = subst Short c.gap.ensures.value c.gap.ensures.short;
+  gap = subst Short c.of_gap.ensures c.of_gap.result.short;
 }
 
 bytes-written : (c : goal.After-push_line-8) → c.push_line-8.new.self.bytes ≡ sheet_bytes c.args.self.now

@@ -1,5 +1,6 @@
 // What a paper is answered, and the lines that are printed of it.
 ghost use Rattle.std.specs.Prelude.{◌≡◌, ◌++◌, IfOk};
+ghost use Rattle.std.specs.Io.{StartsWith};
 ghost use Rattle.answer.specs.Printed.{printed};
 
 use crate::line::{append_figure, append_line, append_word};
@@ -28,10 +29,11 @@ pub enum Answer {
 }
 
 impl Answer {
-    // Writes its lines at the end of the text; where memory runs out, a part of them may stand there.
+    // Writes its lines at the end of the text; where memory runs out, a part of them may stand there, and what stood before stays.
     #[tactic(auto, unfolding(sheet::specs::Lines::sheet_lines))]
     pub fn append_to(&self, text: &mut Vec<u8>) -> Result<(), AllocError>
-        ensures { IfOk result (λ _. text.new.items ≡ text.old.items ++ printed self.now) }
+        ensures lines { IfOk result (λ _. text.new.items ≡ text.old.items ++ printed self.now) }
+        ensures begins { StartsWith text.new.items text.old.items }
     {
         match self {
             Answer::Case => append_word(text, b"CASE"),

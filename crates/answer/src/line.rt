@@ -1,5 +1,6 @@
 // Writing lines at the end of a text.
 ghost use Rattle.std.specs.Prelude.{◌≡◌, [], ◌∷◌, ◌++◌, IfOk};
+ghost use Rattle.std.specs.Io.{StartsWith};
 ghost use Rattle.sheet.specs.Lines.{ended};
 
 use itoa::{Buffer, Integer};
@@ -7,7 +8,8 @@ use std::alloc::AllocError;
 
 // Writes a line of the word alone.
 pub(crate) fn append_word(text: &mut Vec<u8>, word: &[u8]) -> Result<(), AllocError>
-    ensures { IfOk result (λ _. text.new.items ≡ text.old.items ++ ended (word.now ∷ [])) }
+    ensures lines { IfOk result (λ _. text.new.items ≡ text.old.items ++ ended (word.now ∷ [])) }
+    ensures begins { StartsWith text.new.items text.old.items }
 {
     text.extend_from_slice(word)?;
     text.extend_from_slice(b"\n")
@@ -19,7 +21,8 @@ pub(crate) fn append_figure<I: Integer>(
     word: &[u8],
     figure: I,
 ) -> Result<(), AllocError>
-    ensures { IfOk result (λ _. text.new.items ≡ text.old.items ++ (word.now ++ (32 ∷ I.text figure))) }
+    ensures lines { IfOk result (λ _. text.new.items ≡ text.old.items ++ (word.now ++ (32 ∷ I.text figure))) }
+    ensures begins { StartsWith text.new.items text.old.items }
 {
     text.extend_from_slice(word)?;
     text.extend_from_slice(b" ")?;
@@ -32,7 +35,8 @@ pub(crate) fn append_line<I: Integer>(
     word: &[u8],
     figure: I,
 ) -> Result<(), AllocError>
-    ensures { IfOk result (λ _. text.new.items ≡ text.old.items ++ ended ((word.now ++ (32 ∷ I.text figure)) ∷ [])) }
+    ensures lines { IfOk result (λ _. text.new.items ≡ text.old.items ++ ended ((word.now ++ (32 ∷ I.text figure)) ∷ [])) }
+    ensures begins { StartsWith text.new.items text.old.items }
 {
     append_figure(text, word, figure)?;
     append_word(text, b"")

@@ -1,5 +1,6 @@
 // Papers brought to a manned panel one after another.
 ghost use Rattle.std.specs.Prelude.{◌≡◌, IfOk};
+ghost use Rattle.std.specs.Io.{StartsWith};
 ghost use Rattle.stepped.specs.Piecewise.{stepped_meaning};
 ghost use Rattle.curved.specs.Quadratic.{curved_meaning};
 ghost use Rattle.paper_file.specs.Papers.{papers};
@@ -42,7 +43,8 @@ pub(crate) fn answer_papers(
     page: &mut [u8; 256],
     text: &mut Vec<u8>,
 ) -> Result<(), AllocError>
-    ensures { IfOk result (λ _. Printed (PapersAnswered stepped_meaning curved_meaning (manned stepped_meaning curved_meaning panel.old) (papers words.now) (manned stepped_meaning curved_meaning panel.new)) text.old.items text.new.items) }
+    ensures printed { IfOk result (λ _. Printed (PapersAnswered stepped_meaning curved_meaning (manned stepped_meaning curved_meaning panel.old) (papers words.now) (manned stepped_meaning curved_meaning panel.new)) text.old.items text.new.items) }
+    ensures begins { StartsWith text.new.items text.old.items }
 {
     let mut rest = words;
     while !rest.is_empty() {

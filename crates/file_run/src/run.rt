@@ -1,5 +1,6 @@
 // The run of a file: a panel of the case that its first paper says, manned for the papers after it.
 ghost use Rattle.std.specs.Prelude.{IfOk};
+ghost use Rattle.std.specs.Io.{StartsWith};
 ghost use Rattle.stepped.specs.Piecewise.{stepped_meaning};
 ghost use Rattle.curved.specs.Quadratic.{curved_meaning};
 ghost use Rattle.paper_file.specs.Papers.{papers};
@@ -31,7 +32,8 @@ fn run_panel(
     text: &mut Vec<u8>,
 ) -> Result<(), AllocError>
     requires { Begins stepped_meaning curved_meaning panel }
-    ensures { IfOk result (λ _. Printed (PanelRun stepped_meaning curved_meaning (sized_case panel.entry) (papers words.now)) text.old.items text.new.items) }
+    ensures printed { IfOk result (λ _. Printed (PanelRun stepped_meaning curved_meaning (sized_case panel.entry) (papers words.now)) text.old.items text.new.items) }
+    ensures begins { StartsWith text.new.items text.old.items }
 {
     let mut page = [b' '; 256];
     let mut panel = panel.man(FIRST_ATTENDANT);
@@ -55,7 +57,8 @@ fn blank_tables() -> (MachineTables, Tables)
 
 // Reads the first paper among the words as a case and runs a panel of it, and writes what is answered at the end of the text.
 fn run_words(words: &[u32], text: &mut Vec<u8>) -> Result<(), AllocError>
-    ensures { IfOk result (λ _. Printed (FileAnswered (papers words.now)) text.old.items text.new.items) }
+    ensures printed { IfOk result (λ _. Printed (FileAnswered (papers words.now)) text.old.items text.new.items) }
+    ensures begins { StartsWith text.new.items text.old.items }
 {
     let (mut machines, mut tables) = blank_tables();
     let (paper, later) = words.split_at(paper_len(words));

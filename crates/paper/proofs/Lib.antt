@@ -4,3 +4,4 @@ pub mod Changes
 pub mod HandOvers
 pub mod Dispatches
 pub mod Lists
+pub mod Exacts

@@ -6,7 +6,7 @@ use Rattle.word.specs.declared.kind.Kind.TheVariants as kind
 use Rattle.word.specs.declared.fault.WordFault.{WordFault}
 use Rattle.case_paper.specs.Case.{FirstWord, sort_kind}
 use Rattle.case_paper.specs.Fault.{record_open_word}
-use Rattle.case_paper.specs.CaseFault.{OpenWord, Shows, RefusedCase, OpenWordTold}
+use Rattle.case_paper.specs.CaseFault.{OpenWord, Shows, OpenWordTold}
 use Rattle.case_paper.specs.declared.sort.Sort.{Sort}
 use Rattle.case_paper.specs.declared.sort.Sort.TheVariants.{Bus, Stepped, Curved, Branch}
 use Rattle.case_paper.specs.declared.fault.RecordFault.{RecordFault}

@@ -96,13 +96,7 @@ impl<'a, M: Machine, N: Machine> Panel<'a, M, N, Idle> {
             Ok(laid) => laid,
             Err(refusal) => return Err(RowsRefused { refusal, tables }),
         };
-        Ok(opened(
-            laid.tolerance,
-            laid.counts,
-            rows.first,
-            rows.second,
-            tables,
-        ))
+        Ok(opened(laid.tolerance, laid.counts, rows.first, rows.second, tables))
     }
 }
 

@@ -1,6 +1,5 @@
-use Rattle.std.proofs.Common.{◌≡◌, ◌≤◌, ◌+◌, ◌-◌, length, take, refl, sym, ap, ◌∙◌, subst, rules, arith}
-use Rattle.file_print.specs.Stream.{FirstBytes}
-use Rattle.file_print.proofs.Filled.{Filled, filled_none, filled_more, filled_full, filled_ended}
+use Rattle.std.proofs.Common.{rules}
+use Rattle.file_print.proofs.Filled.{filled_more}
 use Rattle.file_print.proofs.reading.fill.Goals as goal
 
 pub loop-filled-preserved : goal.loop-filled-preserved

@@ -1,4 +1,3 @@
-use Rattle.std.proofs.Common.{rules}
 use Rattle.file_print.proofs.Told.{all_written, part_written}
 use Rattle.file_print.proofs.stream.run_stream.Goals as goal
 

@@ -1,5 +1,4 @@
-use Rattle.std.proofs.Common.{◌≡◌, refl}
-use Rattle.file_print.proofs.Written.{written_more, written_part, written_all}
+use Rattle.file_print.proofs.Written.{written_more}
 use Rattle.file_print.proofs.writing.write_text.Goals as goal
 
 pub loop-rest-preserved : goal.loop-rest-preserved

@@ -52,7 +52,8 @@ module _ {M N : Type 0} where
     pub branches : p.branches.now ≡ t.branches
     pub branch_count : p.nl ≡ n.branches
 
-  -- of the lent powers and angles it takes the first: a power for each machine, and an angle for each bus but the reference
+  -- of the lent powers and angles it takes the first: a power for each machine, and an angle for each bus but the reference;
+  -- the others are spare, and as they were
   pub record PlacesTaken (t : Tables) (p : Panel M N Idle) : Type 0 where
     pub powers : p.powers.now ≡ take (length (case_on p).first.machines + length (case_on p).second.machines) t.powers
     pub angles : p.angles.now ≡ take (length (case_on p).buses - 1) t.angles

@@ -6,7 +6,7 @@ use Rattle.panel.specs.declared.panel.Panel.{Panel}
 use Rattle.panel.specs.declared.refusal.OfferRefusal.{OfferRefusal}
 
 module _ {M N S T : Type 0} where
-  -- what no call alters: the machines and where they stand, how many rows of each table are the case's, and the rows after them
+  -- what no call alters: the machines and where they stand, how many rows of each table are the case's, the rows after them, and the spare powers and angles
   pub record SameRest (p : Panel M N S) (q : Panel M N T) : Type 0 where
     pub first : q.first ≡ p.first
     pub second : q.second ≡ p.second

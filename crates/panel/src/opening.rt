@@ -21,7 +21,7 @@ use network::case::{Machines, rows_used};
 use stepped::stepped::Stepped;
 
 // A new panel of the case that the tables and these machines make. Of the tables of powers and angles it takes a place for each machine, and for each bus
-// but the reference.
+// but the reference, and keeps the rest as it is.
 fn opened<'a, M: Machine, N: Machine>(
     tolerance: u32,
     counts: Counts,

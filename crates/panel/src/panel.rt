@@ -10,7 +10,8 @@ use network::bus::Bus;
 use network::case::{Case, Machines};
 
 // A panel for two kinds of machine, idle or manned. Its case stands in lent tables, of which the first rows are the case's. The tables of powers and
-// angles have a place for each that a dispatch has, and hold the dispatch that is shown; a cost says that one is.
+// angles have a place for each that a dispatch has, and hold the dispatch that is shown; a cost says that one is. What was lent beyond those places is
+// kept as it is.
 #[derive(Drop)]
 pub struct Panel<'a, M, N, S> {
     pub(crate) tolerance: u32,

@@ -9,6 +9,8 @@ use panel::reading::Reading;
 use panel::tables::Tables;
 use sheet::gap::Gap;
 use sheet::sheet::Sheet;
+use std::iter::repeat;
+use std::process::Abort;
 use std::test::Fail;
 
 // The sheet of the day.
@@ -18,6 +20,13 @@ const LINES: &[u8] =
 // A refusal as it is shown.
 fn refusal(number: u32, place: usize) -> Shown {
     Shown { number, place }
+}
+
+// The page has the lines, and spaces after them.
+fn check_page(rt: &impl Abort, page: &[u8], lines: &[u8]) {
+    for (byte, due) in page.iter().zip(lines.iter().chain(repeat(&b' '))) {
+        assert_eq!(rt; byte, due);
+    }
 }
 
 #[test]
@@ -87,7 +96,7 @@ fn a_day(rt: HostRuntime) -> Result<(), Fail> {
         floor: Some(Grains(24_000)),
     };
     assert_eq!(rt; sheet, expected);
-    assert_eq!(rt; &page[..LINES.len()], LINES);
+    check_page(&rt, &page, LINES);
     assert_eq!(rt; panel.read(), reading);
     Ok(())
 }

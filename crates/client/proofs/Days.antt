@@ -1,5 +1,5 @@
 -- What a call leaves of the case, and the sheet that a hand-over writes.
-use Rattle.std.proofs.Common.{◌≡◌, ℕ, List, Some, None, Option, Ok, Err, Result, sym, refl}
+use Rattle.std.proofs.Common.{◌≡◌, ℕ, List, drop, Some, None, Option, Ok, Err, Result, sym, refl, ◌∙◌, subst}
 use Rattle.machine.specs.Meaning.{Meaning}
 use Rattle.word.specs.declared.fault.WordFault.{WordFault}
 use Rattle.sheet.specs.declared.sheet.Sheet as page
@@ -14,7 +14,32 @@ use Rattle.panel_model.specs.Network.{network}
 use Rattle.panel_model.specs.Says.{SaysAttendant}
 use Rattle.panel_model.proofs.Faults.{says_none_hand_over}
 use Rattle.panel.specs.Questions.{HandedOver}
+use Rattle.panel.specs.Tables.{SameRest, DispatchTables}
+use Rattle.panel.specs.declared.outcome.Outcome.{Outcome}
+use Rattle.panel.specs.declared.outcome.Outcome.TheVariants.{Held, Passed}
+use Rattle.panel.specs.declared.panel.Panel.{Panel}
+use Rattle.panel.specs.declared.refusal.OfferRefusal.{OfferRefusal}
 use Rattle.client.specs.Day.{handed_sheet}
+
+-- what two calls one after the other leave of the tables
+module _ {M N S T U : Type 0} {p : Panel M N S} {q : Panel M N T} {r : Panel M N U} where
+  pub rest_kept : SameRest p q → SameRest q r → SameRest p r
+  rest_kept a b = record {
+    first = b.first ∙ a.first;
+    second = b.second ∙ a.second;
+    nb = b.nb ∙ a.nb;
+    nl = b.nl ∙ a.nl;
+    buses = subst (λ n. drop n r.buses.now ≡ drop n q.buses.now) a.nb b.buses ∙ a.buses;
+    branches = subst (λ n. drop n r.branches.now ≡ drop n q.branches.now) a.nl b.branches ∙ a.branches;
+    spare_powers = b.spare_powers ∙ a.spare_powers;
+    spare_angles = b.spare_angles ∙ a.spare_angles;
+  }
+
+-- an offered dispatch leaves them too, whatever becomes of it
+pub offer_leaves_rest : {M N S T : Type 0} {p : Panel M N S} {q : Panel M N T} (r : Result Outcome OfferRefusal) → DispatchTables p q r → SameRest p q
+offer_leaves_rest (Ok (Held g)) h = h
+offer_leaves_rest (Ok (Passed g)) h = h.rest
+offer_leaves_rest (Err e) h = h.rest
 
 -- an offer leaves the case
 module _ {m : Model} where

@@ -16,7 +16,8 @@ use Rattle.standing.specs.Standing.{Stands}
 use Rattle.panel_model.specs.Network.{network, SizedCase}
 use Rattle.panel_model.specs.Says.{SaysDispatch, SaysPrices, SaysAttendant}
 use Rattle.panel.specs.Opening.{RowsOpened}
-use Rattle.panel.specs.Questions.{Reads, ReadOut}
+use Rattle.panel.specs.Questions.{Reads, ReadOut, HandedOver}
+use Rattle.panel.specs.Tables.{SameRest}
 use Rattle.panel.specs.View.{sized_case, idle, sheet_told}
 use Rattle.panel.specs.declared.panel.Panel.{Panel}
 use Rattle.panel.specs.declared.tables.Tables.{Tables}
@@ -64,6 +65,11 @@ module _ {M N : Type 0} (𝓜 : Meaning M) (𝓝 : Meaning N) where
     pub offers_stand : Stands (network 𝓜 𝓝) (sized_case opened) (offers 𝓜 𝓝 said) [] offered
     pub reading : Reads 𝓜 𝓝 offered d.reading
     pub list : ReadOut 𝓜 𝓝 offered list_before list_after d.read_out
+    -- the hand-over, and the watch that it leaves
+    pub next : State (network 𝓜 𝓝)
+    pub handed : HandedOver 𝓜 𝓝 w.next.now offered next d.handed_over
+    -- of the lent tables only what the state tells is altered
+    pub rest : SameRest opened d.panel
     -- after all calls
     pub run : Run (network 𝓜 𝓝) (sized_case opened) (day_calls 𝓜 𝓝 said) (sheet_told d.last ∷ handed_sheet d.handed_over) (idle 𝓜 𝓝 d.panel)
     pub stands : Stands (network 𝓜 𝓝) (sized_case opened) (day_calls 𝓜 𝓝 said) (sheet_told d.last ∷ handed_sheet d.handed_over) (idle 𝓜 𝓝 d.panel)

@@ -1,7 +1,10 @@
 -- The run of a file whose bytes a reader gives and whose text a writer takes. What a reader has left and what a writer holds are lists of bytes where they are
 -- known, and nothing is claimed where they are not.
-use Rattle.std.specs.Prelude.{◌≡◌, ℕ, ◌≤◌, List, length, take, Option, IfSome}
+use Rattle.std.specs.Prelude.{◌≡◌, ℕ, ◌≤◌, List, length, take, Option, IfSome, ◌≢◌}
 use Rattle.std.specs.Io.{StartsWith}
+use Rattle.std.specs.IoError.{error_kind}
+use Rattle.std.specs.declared.io.Error.{Error}
+use Rattle.std.specs.declared.io.ErrorKind.TheVariants.{Interrupted}
 use Rattle.std.specs.Io.KnownBytes.{Consumes, Appends, Keeps}
 use Rattle.file_run.specs.Run.{FileRun}
 use Rattle.file_print.specs.declared.stream.StreamError.{StreamError}
@@ -38,8 +41,19 @@ module _ (given left held holds : Option (List ℕ)) where
     pub told : TextOf given left text
     pub part : AppendsPart held holds text
 
+  -- a read failed, and was not only interrupted; nothing is written
+  pub record Unread (e : Error) : Type 0 where
+    pub failed : error_kind e ≢ Interrupted
+    pub kept : Keeps held holds
+
+  -- the bytes are read, and nothing is written
+  pub record Unanswered : Type 0 where
+    pub bytes : List ℕ
+    pub read : FirstBytes 65536 given left bytes
+    pub kept : Keeps held holds
+
   -- nothing is written unless all was read and answered
   abbrev pub StreamFailed : StreamError → Type 0
-  StreamFailed (Reading e) = Keeps held holds
+  StreamFailed (Reading e) = Unread e
   StreamFailed (Writing e) = Broken
-  StreamFailed OutOfMemory = Keeps held holds
+  StreamFailed OutOfMemory = Unanswered

@@ -6,7 +6,7 @@ use Rattle.panel_model.specs.Network.{network}
 use Rattle.panel_model.specs.Says.{SaysDispatch, SaysPrices}
 use Rattle.panel.specs.View.{sized_case, idle, sheet_told}
 use Rattle.client.specs.Day.{Said, handed_sheet, day_calls}
-use Rattle.client.proofs.Days.{offer_leaves_case, sheet_handed}
+use Rattle.client.proofs.Days.{rest_kept, offer_leaves_rest, offer_leaves_case, sheet_handed}
 use Rattle.client.proofs.day.day.Goals as goal
 
 pub returns-clause-day : goal.returns-clause-day
@@ -48,6 +48,11 @@ returns-clause-day g c =
       offers_stand = c.read-reading.ensures.standing start _ _ offers_run;
       reading = c.read-reading.ensures.exact;
       list = c.read_out-read_out.ensures.exact;
+      next = _;
+      handed = o.ensures.exact;
+      rest = rest_kept c.man-panel.ensures.tables.rest
+          (rest_kept (offer_leaves_rest _ c.offer_dispatch.ensures.tables)
+          (rest_kept c.offer_prices.ensures.tables.rest (rest_kept o.ensures.tables.rest e.ensures.tables.rest)));
       run = run;
       stands = e.ensures.standing start _ _ run;
     }

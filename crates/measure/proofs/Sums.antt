@@ -217,6 +217,12 @@ sum_from f k (x ∷ xs) (suc n) = sum_front (row_or (pos 0) f k (x ∷ xs)) n �
 pub sum_rows : {X : Type 0} (f : Row X → ℤ) (xs : List X) (n : ℕ) → sum_to (row_value f xs) n ≡ total f (rows (take n xs))
 sum_rows f xs n = sum_from f 0 xs n
 
+-- what is equal at each of the first n numbers has equal sums
+pub sum_same : (f g : ℕ → ℤ) (n : ℕ) → ((i : ℕ) → i < n → f i ≡ g i) → sum_to f n ≡ sum_to g n
+unfolding sum_to
+sum_same f g zero h = refl
+sum_same f g (suc n) h = λ i. sum_same f g n (λ j l. h j (omega arith)) i +ℤ h n (omega arith) i
+
 -- ---- a row by its number
 pub item_at : {X : Type 0} (xs : List X) (i : ℕ) → i < length xs → (x : X) × Stands xs i x
 unfolding Stands

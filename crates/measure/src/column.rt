@@ -24,3 +24,12 @@ impl<'a> Column for Table<'a> {
         self.values.get(row).copied().unwrap_or(0)
     }
 }
+
+// A column that is only lent is read as it is: what takes a column by value takes one that is lent to its caller, too.
+impl<'b, C: Column> Column for &'b C {
+    ghost value = { λ c. C.value c.now };
+
+    fn at(&self, row: usize) -> i64 {
+        (*self).at(row)
+    }
+}

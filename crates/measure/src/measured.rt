@@ -7,12 +7,12 @@ use crate::price::Price;
 use crate::{AnglePrice, Microradians, Watts};
 use std::marker::PhantomData;
 
-// A column whose numbers are all of the measure T.
+// A column whose numbers are all of the measure T. Both fields are public, so that a constant can be written out: it can't call `new`.
 #[derive_where(Clone, Copy; C)]
 #[derive(Drop)]
 pub struct Measured<C, T> {
     pub column: C,
-    measure: PhantomData<T>,
+    pub measure: PhantomData<T>,
 }
 
 // Powers in watts.

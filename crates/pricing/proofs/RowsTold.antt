@@ -18,7 +18,7 @@ remarked m b =
       angmax_kept = refl;
     }
 
-length-with_mark : (bs : List Branch) (i : ℕ) (m : Bool) → length (with_mark bs i m) ≡ length bs
+pub length-with_mark : (bs : List Branch) (i : ℕ) (m : Bool) → length (with_mark bs i m) ≡ length bs
 unfolding with_mark
 length-with_mark [] i m = refl
 length-with_mark (b ∷ bs) zero m = refl

@@ -1,4 +1,5 @@
 // The records of a lawful case, one after another.
+ghost use Rattle.std.specs.Prelude.{[]};
 ghost use Rattle.case_paper.specs.Case.{CaseForm};
 ghost use Rattle.case_tables.specs.Held.{Holds, CountedCase};
 
@@ -6,12 +7,12 @@ use crate::record::RecordWords;
 use crate::rows::CaseRows;
 use case_paper::sort::Sort;
 
-// The rows of all records. The head has six words, and the end word comes last.
-pub(crate) fn read_rows(words: &[u32]) -> CaseRows
-    requires { CountedCase words.now }
-    ensures { (c : CaseForm words.now) → Holds result c.records }
+// Keeps the rows of all records. The head has six words, and the end word comes last. Where the rows stand is lent, not answered: they would be copied.
+pub(crate) fn read_rows(words: &[u32], rows: &mut CaseRows)
+    requires counted { CountedCase words.now }
+    requires empty { Holds rows.old [] }
+    ensures { (c : CaseForm words.now) → Holds rows.new c.records }
 {
-    let mut rows = CaseRows::empty();
     let mut records = &words[6..words.len() - 1];
     while let [first, rest @ ..] = records {
         let sort = Sort::of(*first);
@@ -23,5 +24,4 @@ pub(crate) fn read_rows(words: &[u32]) -> CaseRows
         });
         records = later;
     }
-    rows
 }

@@ -14,7 +14,10 @@ pub fn admit_all(words: &[u32], runs: &[Run]) -> Result<(), WordFault>
 {
     // By place, which is part of the fault; a loop, whose invariant speaks of the words before the place.
     for (place, word) in words.iter().enumerate() {
-        let slot = slot_at(runs, place).ok_or(WordFault::at(WordRefusal::Follows, place))?;
+        // By `let .. else`: `ok_or` is given the fault at each word, also where it fits.
+        let Some(slot) = slot_at(runs, place) else {
+            return Err(WordFault::at(WordRefusal::Follows, place));
+        };
         slot.admit(place, *word)?;
     }
     if slot_at(runs, words.len()).is_some() {

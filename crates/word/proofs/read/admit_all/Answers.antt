@@ -9,9 +9,9 @@ use Rattle.word.proofs.read.admit_all.Goals as goal
 
 pub returns-in_err-admit : goal.returns-in_err-admit
 returns-in_err-admit c =
-    let p = err_from_is_err_and c.from_residual-in_err-admit.result c.from_residual-in_err-admit.ensures.1 in
+    let p = err_from_is_err_and c.from_residual.result c.from_residual.ensures.1 in
     let f = c.in_err-admit.ensures in
-    let due : Due (slots_of c.args.runs.now) c.loop-place.place (Some c.in_ok-slot.slot) = search rules in
+    let due : Due (slots_of c.args.runs.now) c.loop-place.place (Some c.in-Some.slot) = search rules in
     let m = subst (λ (s : Slot). Misfits s (get_or c.args.words.now c.loop-place.place 0) c.in_err-admit.field-0.0.refusal) due.1 f.0 in
     let g = refused_misfit (slots_of c.args.runs.now) c.args.words.now c.loop-place.place c.requires c.loop-place.invariant.1
     End (omega arith) due.0 c.in_err-admit.field-0.0.refusal m in
@@ -19,7 +19,7 @@ returns-in_err-admit c =
 
 pub loop-place-preserved : goal.loop-place-preserved
 loop-place-preserved c =
-    let due : Due (slots_of c.args.runs.now) c.loop-place.place (Some c.in_ok-slot.slot) = search rules in
+    let due : Due (slots_of c.args.runs.now) c.loop-place.place (Some c.in-Some.slot) = search rules in
     let f = subst (λ (s : Slot). Fits s (get_or c.args.words.now c.loop-place.place 0)) due.1 c.in_ok-admit.ensures in (
       omega arith,
       rw add-one
